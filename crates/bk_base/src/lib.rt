@@ -1,0 +1,19 @@
+//! What every crate of beamkit stands on: buffers, texts, lists of words, and a cursor over bytes.
+#![tactic(auto)]
+
+mod byte_list;
+mod bytes;
+mod cursor;
+mod memory;
+mod text;
+mod word_list;
+
+pub use byte_list::ByteList;
+pub use bytes::Bytes;
+pub use cursor::Cursor;
+pub use memory::NoMemory;
+pub use text::{Text, TextFault};
+pub use word_list::WordList;
+
+#[cfg(test)]
+mod tests;

@@ -1,0 +1,49 @@
+use super::*;
+use std::test::Fail;
+
+#[test]
+fn buffers_hold_what_was_put(rt: HostRuntime) -> Result<(), Fail> {
+    let mut bytes = Bytes::new(rt.alloc());
+    bytes.reserve(3)?;
+    bytes.push(1)?;
+    bytes.extend(&[2, 3])?;
+    assert_eq!(rt; bytes.as_slice(), [1, 2, 3].as_slice());
+    assert_eq!(rt; (bytes.len(), bytes.is_empty()), (3, false));
+    let list = ByteList::from_slice(rt.alloc(), bytes.as_slice())?;
+    assert_eq!(rt; (list.len(), list.is_empty()), (3, false));
+    assert_eq!(rt; Bytes::from(list).as_slice(), [1, 2, 3].as_slice());
+    assert!(rt; ByteList::from(bytes).len() == 3 && ByteList::new(rt.alloc()).is_empty());
+    Ok(())
+}
+
+#[test]
+fn words_are_text(rt: HostRuntime) -> Result<(), Fail> {
+    let mut words = WordList::new(rt.alloc());
+    assert!(rt; words.is_empty());
+    words.push(Text::from_bytes(rt.alloc(), b"info")?)?;
+    words.push(Text::from(String::from_str(rt.alloc(), "-")?))?;
+    assert_eq!(rt; words.len(), 2);
+    assert_eq!(rt;
+        words.get(0).ok_or("no word")?.as_bytes(),
+        b"info".as_slice()
+    );
+    assert_eq!(rt; words.get(1).ok_or("no word")?.as_str(), "-");
+    assert!(rt; words.get(2).is_none());
+    let refused = Text::from_bytes(rt.alloc(), &[b'a', 0xff]);
+    assert!(rt; matches!(&refused, Err(TextFault::NotUtf8)));
+    Ok(())
+}
+
+#[test]
+fn a_cursor_reads_from_the_front(rt: HostRuntime) -> Result<(), Fail> {
+    let mut cursor = Cursor::new(&[1, 0, 2, 0, 0, 1, 0, 9]);
+    assert_eq!(rt; cursor.byte(), Some(1));
+    assert_eq!(rt; cursor.be16(), Some(2));
+    assert_eq!(rt; cursor.be32(), Some(256));
+    assert_eq!(rt; cursor.be16(), None);
+    assert_eq!(rt; (cursor.at(), cursor.is_empty()), (7, false));
+    assert_eq!(rt; cursor.rest(), [9].as_slice());
+    assert_eq!(rt; cursor.take(1).ok_or("no byte")?, [9].as_slice());
+    assert!(rt; cursor.is_empty());
+    Ok(())
+}
