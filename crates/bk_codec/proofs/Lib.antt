@@ -1,0 +1,5 @@
+pub mod Steps
+pub mod Numbers
+pub mod Agreement
+pub mod Loop
+pub mod ToTheEnd
