@@ -1,0 +1,4 @@
+pub mod Chunks
+pub mod Walk
+pub mod Whole
+pub mod Loop

@@ -1,0 +1,5 @@
+pub mod Chunk
+pub mod Form
+pub mod Kept
+pub mod Reading
+pub mod Text
