@@ -1,0 +1,5 @@
+pub mod Causes
+pub mod Known
+pub mod Listed
+pub mod Reading
+pub mod Writing
