@@ -1,5 +1,6 @@
 //! Files in memory.
 
+ghost use Rattle.bk_port.specs.Listed.{bytes_held, bytes_at};
 ghost use Rattle.std.specs.Prelude.{◌≡◌, ◌↔◌, [], ◌∷◌, ◌++◌, length, slice_get, IsTrue, OnOk, OnErr, option_copied};
 
 use bk_base::{ByteList, Bytes, NoMemory, Text};
@@ -13,6 +14,7 @@ pub struct FileList {
 }
 
 impl Model for FileList {
+    ghost use Rattle.bk_port.specs.Listed.{bytes_held, bytes_at};
     ghost use Rattle.std.specs.Prelude.{ℕ, List};
 
     ghost Value = { List (List ℕ × List ℕ) };
@@ -44,6 +46,18 @@ impl FileList {
         ensures { option_copied result ≡ slice_get self.now i }
     {
         self.files.get(i)
+    }
+
+    // The place of the first file with this name.
+    pub(crate) fn position(&self, name: &Text) -> Option<usize>
+        ensures { bytes_at self.now result ≡ bytes_held self.now name.now }
+    {
+        for (place, (listed, _)) in self.files.iter().enumerate() {
+            if listed.as_bytes() == name.as_bytes() {
+                return Some(place);
+            }
+        }
+        None
     }
 
     /// How many files there are.
