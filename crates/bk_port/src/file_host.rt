@@ -1,6 +1,7 @@
 //! A host over the files of the system.
 
-ghost use Rattle.std.specs.Prelude.{ℕ, ◌≡◌, List, None};
+ghost use Rattle.std.specs.Prelude.{ℕ, ◌≡◌, ◌≤◌, List, None};
+ghost use Rattle.bk_port.specs.Causes.{Rose};
 ghost use Rattle.bk_port.specs.Source.{IsOpen};
 
 use crate::host::{Failed, Host};
@@ -42,6 +43,16 @@ impl<R: Files + Input + Drop> FileHost<R> {
             faults: 0,
         }
     }
+
+    // Counts an error.
+    fn failed(&mut self) -> Failed
+        ensures later { self.old.faults ≤ self.new.faults }
+        ensures rose { Rose self.old.faults self.new.faults }
+        ensures count { self.new.count ≡ self.old.count }
+    {
+        self.faults = self.faults.saturating_add(1);
+        Failed
+    }
 }
 
 impl<R: Files + Input + Drop> Host for FileHost<R> {
@@ -63,10 +74,7 @@ impl<R: Files + Input + Drop> Host for FileHost<R> {
         } else {
             match fs::open(&self.runtime, name.as_str()) {
                 Ok(file) => self.source = Source::File(file),
-                Err(_) => {
-                    self.faults = self.faults.saturating_add(1);
-                    return Err(Failed);
-                }
+                Err(_) => return Err(self.failed()),
             }
         }
         self.count = 0;
@@ -84,10 +92,7 @@ impl<R: Files + Input + Drop> Host for FileHost<R> {
                 self.count = self.count.saturating_add(count as u64);
                 Ok(count)
             }
-            Err(_) => {
-                self.faults = self.faults.saturating_add(1);
-                Err(Failed)
-            }
+            Err(_) => Err(self.failed()),
         }
     }
 }

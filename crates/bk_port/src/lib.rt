@@ -20,3 +20,6 @@ pub use reading::{LoadFault, MOST_BYTES, load};
 pub use sink::{Sink, WriteFault};
 pub use std_sink::StdSink;
 pub use writing::{emit, emit_all};
+
+#[cfg(test)]
+mod tests;

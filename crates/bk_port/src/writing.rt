@@ -1,16 +1,19 @@
 //! Writing all bytes.
 
-ghost use Rattle.std.specs.Prelude.{◌≡◌, OnOk, OnErr};
+ghost use Rattle.std.specs.Prelude.{◌≡◌, length, IsOk, OnOk, OnErr};
 ghost use Rattle.bk_port.specs.Causes.{HasCause};
 ghost use Rattle.bk_port.specs.Known.{after_known};
 ghost use Rattle.bk_port.specs.Writing.{WritesPart, joined};
 
 use crate::sink::{Sink, WriteFault};
 
-/// Writes all bytes. It fails only where the sink's faults rose, with a front part written.
+/// Writes all bytes.
+///
+/// It fails only where the sink's faults rose, with a front part written, and never at no bytes.
 pub fn emit<S: Sink>(sink: &mut S, bytes: &[u8]) -> Result<(), WriteFault>
     ensures ok { OnOk result (S.written sink.new ≡ after_known (S.written sink.old) bytes.now) }
     ensures err { OnErr result (WritesPart (S.written sink.old) (S.written sink.new) bytes.now) }
+    ensures empty { length bytes.now ≡ 0 → IsOk result }
     ensures cause { HasCause (S.faults sink.old) (S.faults sink.new) result }
 {
     let mut rest = bytes;
