@@ -1,0 +1,7 @@
+pub mod Causes
+pub mod Known
+pub mod Listed
+pub mod Reading
+pub mod Source
+pub mod Taken
+pub mod Writing

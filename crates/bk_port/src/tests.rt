@@ -1,0 +1,65 @@
+use super::*;
+use bk_base::{Bytes, Text};
+use std::io::{BufWriter, Cursor};
+use std::test::Fail;
+use std::{env, fs, process};
+
+#[test]
+fn memory_is_read_and_written(rt: HostRuntime) -> Result<(), Fail> {
+    let mut files = FileList::new(rt.alloc());
+    assert!(rt; files.is_empty());
+    for (name, contents) in [("a", "first"), ("a", "second"), ("empty", "")] {
+        let mut bytes = Bytes::new(rt.alloc());
+        bytes.extend(contents.as_bytes())?;
+        files.push(Text::from_bytes(rt.alloc(), name.as_bytes())?, bytes)?;
+    }
+    let (name, bytes) = files.get(1).ok_or("no file")?;
+    assert_eq!(rt; (name.as_str(), bytes.len()), ("a", 6));
+    assert_eq!(rt; files.len(), 3);
+    let mut host = MemHost::new(files);
+    for (name, contents) in [("a", "first"), ("empty", ""), ("none", "")] {
+        let name = Text::from_bytes(rt.alloc(), name.as_bytes())?;
+        let loaded = load(rt.alloc(), &mut host, &name)?;
+        assert_eq!(rt; loaded.as_slice(), contents.as_bytes(), "at {name:?}");
+    }
+    for (room, all, written) in [(9, true, "onetwo"), (6, true, "onetwo"), (4, false, "onet")] {
+        let mut sink = MemSink::new(rt.alloc(), room)?;
+        let outcome = emit_all(&mut sink, &[b"one", b"", b"two"]);
+        assert_eq!(rt; outcome.is_ok(), all, "at {room}");
+        assert_eq!(rt; sink.written(), written.as_bytes(), "at {room}");
+        let outcome = emit(&mut sink, b"three");
+        assert_eq!(rt; outcome, Err(WriteFault), "at {room}");
+    }
+    Ok(())
+}
+
+#[test]
+fn files_are_read(rt: HostRuntime) -> Result<(), Fail> {
+    let folder = env::temp_dir(&rt)?;
+    let own = process::id(rt.process());
+    let path = format!(in rt.alloc(); "{}/bk_port_{own}", folder.as_str())?;
+    let name = Text::from_bytes(rt.alloc(), path.as_bytes())?;
+    fs::write(&rt, &path, "some bytes")?;
+    let mut host = FileHost::new(rt);
+    let loaded = load(rt.alloc(), &mut host, &name)?;
+    assert_eq!(rt; loaded.as_slice(), b"some bytes".as_slice());
+    fs::remove_file(&rt, &path)?;
+    let missing = load(rt.alloc(), &mut host, &name);
+    assert!(rt; matches!(&missing, Err(LoadFault::ReadFault)));
+    Ok(())
+}
+
+#[test]
+fn writers_are_flushed(rt: HostRuntime) -> Result<(), Fail> {
+    let mut writer = BufWriter::new(rt.alloc(), Cursor::new([0u8; 4]))?;
+    for (piece, outcome, written) in [
+        ("abc", Ok(()), [b'a', b'b', b'c', 0]),
+        ("", Ok(()), [b'a', b'b', b'c', 0]),
+        ("de", Err(WriteFault), *b"abcd"),
+    ] {
+        let mut sink = StdSink::new(&mut writer);
+        assert_eq!(rt; emit(&mut sink, piece.as_bytes()), outcome, "at {piece}");
+        assert_eq!(rt; *writer.get_ref().get_ref(), written, "at {piece}");
+    }
+    Ok(())
+}
