@@ -1,0 +1,27 @@
+-- A stop's message is the message that its status asks for.
+use Rattle.std.proofs.Common.{◌≡◌, ℕ, List, [], ◌∷◌, Option, Some, None, refl, sym, ap, subst, ◌∙◌}
+use Rattle.std.specs.Prelude.{Any, IfSome}
+use Rattle.beam_cli.specs.declared.stop.Stop.{Stop}
+use Rattle.beam_cli.specs.declared.stop.Stop.TheVariants.{Grammar, ReadFault, TooLarge, NoMemory}
+use Rattle.beam_cli.specs.declared.status.Status.{Status}
+use Rattle.beam_cli.specs.declared.status.Status.TheVariants as statuses
+use Rattle.beam_cli.specs.Answer.{Answer, stopped}
+use Rattle.beam_cli.specs.Message.{read_fault_line}
+use Rattle.beam_cli.specs.Outcome.{IsMessage}
+use Rattle.beam_cli.specs.Stopping.{HasReason, message_of, status_of}
+
+-- the answer's message, where the answer is told
+said_answer : (answer : Option Answer) (Said : List ℕ → Type 0) (message : List ℕ) (status : Status) → IfSome answer (λ a. a ≡ stopped message status) → Said message → IfSome answer (λ a. Said a.message)
+said_answer None Said message status reason said = tt
+said_answer (Some a) Said message status reason said = subst Said (sym (ap (λ (b : Answer). b.message) reason)) said
+
+said_faulty : (Said Faulty : List ℕ → Type 0) (name : List ℕ) (names : List (List ℕ)) → Any (λ n. (n ≡ name) × Faulty n) names → Said (read_fault_line name) → Any (λ n. Faulty n × Said (read_fault_line n)) names
+said_faulty Said Faulty name names some said =
+    (some.0, some.1, some.2, some.3, (some.4.1, subst (λ (n : List ℕ). Said (read_fault_line n)) (sym some.4.0) said))
+
+pub message_at : (stop : Stop) (answer : Option Answer) (Said Faulty : List ℕ → Type 0) (names : List (List ℕ)) (Nothing : Type 0) → HasReason answer Faulty names stop → Said (message_of stop)
+    → IsMessage (status_of stop) answer Said Faulty names Nothing
+message_at (Grammar name e) answer Said Faulty names Nothing reason said = said_answer answer Said (message_of (Grammar name e)) statuses.Grammar reason said
+message_at (ReadFault name) answer Said Faulty names Nothing reason said = said_faulty Said Faulty name.now names reason said
+message_at (TooLarge name) answer Said Faulty names Nothing reason said = said_answer answer Said (message_of (TooLarge name)) statuses.TooLarge reason said
+message_at NoMemory answer Said Faulty names Nothing reason said = said

@@ -1,0 +1,59 @@
+//! beamkit opens compiled Erlang modules and tells what is in them.
+#![tactic(auto)]
+
+mod command;
+mod making;
+mod running;
+mod saying;
+mod status;
+mod stop;
+
+pub use crate::command::{Command, command_from};
+pub use crate::running::run;
+pub use crate::status::Status;
+pub use crate::stop::Stop;
+use bk_base::{NoMemory, Text, WordList};
+use bk_port::{FileHost, StdSink};
+use std::alloc::Global;
+use std::env::args;
+use std::io;
+use std::process::ExitCode;
+use std::rt::Env;
+
+#[cfg(test)]
+mod tests;
+
+// A list of the one empty word, which is in no place of the command grammar.
+fn empty_word(alloc: Global) -> Result<WordList, NoMemory> {
+    let mut words = WordList::new(alloc);
+    words.push(Text::from(String::new(alloc)))?;
+    Ok(words)
+}
+
+// The words after the program's name. Where one of them is not UTF-8 the system's list cannot be had,
+// and the empty word stands for it.
+fn words_from(rt: &(impl Env + AllocGlobal)) -> Result<WordList, NoMemory> {
+    let mut words = WordList::new(rt.alloc());
+    match args(rt) {
+        Ok(all) => {
+            for word in all.skip(1) {
+                words.push(Text::from(word))?;
+            }
+            Ok(words)
+        }
+        Err(error) if error.kind() == io::ErrorKind::OutOfMemory => Err(NoMemory),
+        Err(_) => empty_word(rt.alloc()),
+    }
+}
+
+fn main(rt: HostRuntime) -> ExitCode {
+    let Ok(words) = words_from(&rt) else {
+        return ExitCode::from(Status::NoMemory.code());
+    };
+    let mut out = StdSink::new(rt.stdout());
+    let mut err = StdSink::new(rt.stderr());
+    let alloc = rt.alloc();
+    let mut host = FileHost::new(rt);
+    let status = run(alloc, &words, &mut host, &mut out, &mut err);
+    ExitCode::from(status.code())
+}

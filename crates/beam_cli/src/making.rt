@@ -1,0 +1,86 @@
+//! Making the output of a command.
+
+ghost use Rattle.std.specs.Prelude.{◌≡◌, ◌≤◌, ◌⊎◌, ℕ, List, [], ◌∷◌, length, Some, IfOk, IfErr, IfSome, IsErr, OnOk};
+ghost use Rattle.bk_port.specs.Causes.{Rose};
+ghost use Rattle.bk_port.specs.Reading.{IsLeftAfter, HasReadAtMost};
+ghost use Rattle.beam_cli.specs.Words.{Info, named};
+ghost use Rattle.beam_cli.specs.Asking.{asked};
+ghost use Rattle.beam_cli.specs.Answer.{made, info_answer, asked_answer};
+ghost use Rattle.beam_cli.specs.Outcome.{SomeLeft};
+ghost use Rattle.beam_cli.specs.Stopping.{HasReason, HasLoadReason, IsTooLarge};
+
+use crate::command::Command;
+use crate::stop::Stop;
+use bk_base::{Bytes, Text};
+use bk_port::{Host, LoadFault, load};
+use iff_form::{FormRefusal, info_text, read_form};
+use std::alloc::Global;
+
+// The bytes of a named file.
+fn load_file<'a, H: Host>(alloc: Global, host: &mut H, name: &'a Text) -> Result<Bytes, Stop<'a>>
+    ensures whole { IfOk result (λ bytes. IfSome (H.holds host.old name.now) (λ all. bytes.items ≡ all)) }
+    ensures size { IfOk result (λ bytes. length bytes.items ≤ 16777216) }
+    ensures reason { IfErr result (λ stop. HasLoadReason (H.holds host.old name.now)
+        (Rose (H.faults host.old name.now) (H.faults host.new name.now)) name.now stop) }
+    ensures too_large { IfErr result (λ stop. IsTooLarge stop → H.count host.new ≡ 16777217) }
+    ensures not_too_large { IfErr result (λ stop. IsTooLarge stop ⊎ HasReadAtMost 16777216 (H.count host.old) (H.count host.new)) }
+    ensures at_most { OnOk result (HasReadAtMost 16777216 (H.count host.old) (H.count host.new)) }
+    ensures left { IsLeftAfter 16777217 (H.holds host.old name.now) (H.left host.old) (H.left host.new) }
+    ensures holds { (n : List ℕ) → H.holds host.new n ≡ H.holds host.old n }
+    ensures later { (n : List ℕ) → H.faults host.old n ≤ H.faults host.new n }
+{
+    match load(alloc, host, name) {
+        Ok(bytes) => Ok(bytes),
+        Err(LoadFault::ReadFault) => Err(Stop::ReadFault(name)),
+        Err(LoadFault::TooLarge) => Err(Stop::TooLarge(name)),
+        Err(LoadFault::NoMemory) => Err(Stop::NoMemory),
+    }
+}
+
+// The output of `info` for these bytes of the named file.
+fn info_of<'a>(alloc: Global, name: &'a Text, bytes: &[u8]) -> Result<Bytes, Stop<'a>>
+    ensures ok { IfOk result (λ text. info_answer name.now bytes.now ≡ made text.items) }
+    ensures reason { IfErr result (HasReason (Some (info_answer name.now bytes.now)) (λ _. ⊥) []) }
+{
+    match read_form(alloc, bytes) {
+        Ok(form) => match info_text(alloc, &form) {
+            Ok(text) => Ok(text),
+            Err(_) => Err(Stop::NoMemory),
+        },
+        Err(FormRefusal::NoMemory) => Err(Stop::NoMemory),
+        Err(refusal) => Err(Stop::Grammar(name, refusal)),
+    }
+}
+
+// The output of `info` on a file.
+fn make_info<'a, H: Host>(alloc: Global, host: &mut H, name: &'a Text) -> Result<Bytes, Stop<'a>>
+    ensures ok { IfOk result (λ text. IfSome (asked_answer (H.holds host.old) (Info name.now)) (λ a. a ≡ made text.items)) }
+    ensures reason { IfErr result (HasReason (asked_answer (H.holds host.old) (Info name.now))
+        (λ n. Rose (H.faults host.old n) (H.faults host.new n)) (name.now ∷ [])) }
+    ensures too_large { IfErr result (λ stop. IsTooLarge stop → H.count host.new ≡ 16777217) }
+    ensures not_too_large { IfErr result (λ stop. IsTooLarge stop ⊎ HasReadAtMost 16777216 (H.count host.old) (H.count host.new)) }
+    ensures at_most { OnOk result (HasReadAtMost 16777216 (H.count host.old) (H.count host.new)) }
+    ensures left { SomeLeft (H.holds host.old) (H.left host.old) (H.left host.new) (name.now ∷ []) }
+{
+    let bytes = load_file(alloc, host, name)?;
+    info_of(alloc, name, bytes.as_slice())
+}
+
+/// The whole output of a command, or why there is none.
+pub fn make<'a, H: Host>(
+    alloc: Global,
+    host: &mut H,
+    command: Command<'a>,
+) -> Result<Bytes, Stop<'a>>
+    ensures ok { IfOk result (λ text. IfSome (asked_answer (H.holds host.old) (asked command.entry)) (λ a. a ≡ made text.items)) }
+    ensures reason { IfErr result (HasReason (asked_answer (H.holds host.old) (asked command.entry))
+        (λ n. Rose (H.faults host.old n) (H.faults host.new n)) (named (Some (asked command.entry)))) }
+    ensures too_large { IfErr result (λ stop. IsTooLarge stop → H.count host.new ≡ 16777217) }
+    ensures not_too_large { IfErr result (λ stop. IsTooLarge stop ⊎ HasReadAtMost 16777216 (H.count host.old) (H.count host.new)) }
+    ensures at_most { OnOk result (HasReadAtMost 16777216 (H.count host.old) (H.count host.new)) }
+    ensures left { SomeLeft (H.holds host.old) (H.left host.old) (H.left host.new) (named (Some (asked command.entry))) }
+{
+    match command {
+        Command::Info(name) => make_info(alloc, host, name),
+    }
+}

@@ -1,0 +1,69 @@
+//! The whole of what the program does.
+
+ghost use Rattle.std.specs.Prelude.{◌≡◌, ◌↔◌, ◌⊎◌, None};
+ghost use Rattle.bk_port.specs.Causes.{Rose};
+ghost use Rattle.bk_port.specs.Reading.{HasReadAtMost};
+ghost use Rattle.beam_cli.specs.Words.{asked_by, named};
+ghost use Rattle.beam_cli.specs.Answer.{answer};
+ghost use Rattle.beam_cli.specs.Outcome.{IsStatus, IsOutput, IsAnswered, IsMessage, IsSaid, SomeRose, SomeLeft};
+
+use crate::command::command_from;
+use crate::making::make;
+use crate::saying::{say_stop, say_usage, say_write_fault};
+use crate::status::Status;
+use bk_base::WordList;
+use bk_port::{Host, Sink, emit};
+use std::alloc::Global;
+
+/// Does what the words ask for: reads the named files from the host, writes the output to `out`, and
+/// one message to `err` where the status is 2 or more.
+///
+/// The words are judged first, without memory and without a call on the host. The whole output is made
+/// before its first byte is written, and messages take no memory.
+pub fn run<H: Host, O: Sink, E: Sink>(
+    alloc: Global,
+    words: &WordList,
+    host: &mut H,
+    out: &mut O,
+    err: &mut E,
+) -> Status
+    // The status and the output are those of the answer to the words and to what the files hold.
+    ensures status { IsStatus result (answer (H.holds host.old) words.now) }
+    ensures output { IsOutput result (O.written out.old) (O.written out.new) (answer (H.holds host.old) words.now) }
+    // Where nothing fails, the answer is given, or memory ran out.
+    ensures complete { IsAnswered result (answer (H.holds host.old) words.now)
+        (SomeRose (H.faults host.old) (H.faults host.new) (named (asked_by words.now)) ⊎ Rose (O.faults out.old) (O.faults out.new)) }
+    // Each other status has its cause.
+    ensures usage { (result ≡ Status.Usage) ↔ (asked_by words.now ≡ None) }
+    ensures usage_host { result ≡ Status.Usage → host.new ≡ host.old }
+    ensures read_fault { result ≡ Status.ReadFault → SomeRose (H.faults host.old) (H.faults host.new) (named (asked_by words.now)) }
+    ensures write_fault { result ≡ Status.WriteFault → Rose (O.faults out.old) (O.faults out.new) }
+    ensures too_large { result ≡ Status.TooLarge → H.count host.new ≡ 16777217 }
+    ensures not_too_large { (result ≡ Status.TooLarge) ⊎ HasReadAtMost 16777216 (H.count host.old) (H.count host.new) }
+    // One message says the status and its cause.
+    ensures message { IsMessage result (answer (H.holds host.old) words.now)
+        (IsSaid (E.written err.old) (E.written err.new) (E.faults err.old) (E.faults err.new))
+        (λ name. Rose (H.faults host.old name) (H.faults host.new name))
+        (named (asked_by words.now))
+        (E.written err.new ≡ E.written err.old) }
+    // What is left of the host.
+    ensures left { SomeLeft (H.holds host.old) (H.left host.old) (H.left host.new) (named (asked_by words.now)) }
+{
+    let Some(command) = command_from(words) else {
+        say_usage(err);
+        return Status::Usage;
+    };
+    match make(alloc, host, command) {
+        Ok(text) => match emit(out, text.as_slice()) {
+            Ok(()) => Status::Done,
+            Err(_) => {
+                say_write_fault(err);
+                Status::WriteFault
+            }
+        },
+        Err(stop) => {
+            say_stop(err, stop);
+            stop.status()
+        }
+    }
+}

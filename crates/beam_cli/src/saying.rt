@@ -1,0 +1,95 @@
+//! The messages, which take no memory.
+
+ghost use Rattle.std.specs.Prelude.{◌≡◌, ◌++◌, List, ℕ, codes};
+ghost use Rattle.beam_cli.specs.Message.{line, line_about, refusal_text, usage_line, write_fault_line};
+ghost use Rattle.beam_cli.specs.Outcome.{IsSaid};
+ghost use Rattle.beam_cli.specs.Stopping.{message_of};
+
+use crate::stop::Stop;
+use bk_base::Text;
+use bk_port::{Sink, emit_all};
+use iff_form::{FormRefusal, IdText};
+use itoa::Buffer;
+
+// Writes a message of this text. A fault of the sink cuts it short and is passed over.
+fn say<E: Sink>(err: &mut E, text: &[u8])
+    ensures { IsSaid (E.written err.old) (E.written err.new) (E.faults err.old) (E.faults err.new) (line text.now) }
+{
+    let _ = emit_all(err, &[b"beamkit: ", text, b"\n"]);
+}
+
+// Writes a message about a file, whose text has up to four parts.
+fn say_about<E: Sink>(
+    err: &mut E,
+    name: &Text,
+    first: &[u8],
+    second: &[u8],
+    third: &[u8],
+    last: &[u8],
+)
+    ensures { IsSaid (E.written err.old) (E.written err.new) (E.faults err.old) (E.faults err.new)
+        (line_about name.now (first.now ++ (second.now ++ (third.now ++ last.now)))) }
+{
+    let name = name.as_bytes();
+    let _ = emit_all(
+        err,
+        &[b"beamkit: ", name, b": ", first, second, third, last, b"\n"],
+    );
+}
+
+// Writes why a file is no form.
+fn say_refusal<E: Sink>(err: &mut E, name: &Text, refusal: FormRefusal)
+    ensures { IsSaid (E.written err.old) (E.written err.new) (E.faults err.old) (E.faults err.new)
+        (line_about name.now (refusal_text refusal)) }
+{
+    let mut first = Buffer::new();
+    let mut second = Buffer::new();
+    match refusal {
+        FormRefusal::Gzip => say_about(err, name, b"gzip file", b"", b"", b""),
+        FormRefusal::NotBeam => say_about(err, name, b"not a BEAM file", b"", b"", b""),
+        FormRefusal::Size { stated, found } => {
+            let stated = first.format(stated).as_bytes();
+            let found = second.format(found).as_bytes();
+            say_about(err, name, b"size ", stated, b", found ", found)
+        }
+        FormRefusal::ChunkCut { at } => {
+            let at = first.format(at).as_bytes();
+            say_about(err, name, b"chunk cut at ", b"", b"", at)
+        }
+        FormRefusal::Twice { id, at } => {
+            let id = IdText::new(id);
+            let at = first.format(at).as_bytes();
+            say_about(err, name, b"chunk ", id.as_bytes(), b" twice at ", at)
+        }
+        FormRefusal::NoMemory => say_about(err, name, b"out of memory", b"", b"", b""),
+    }
+}
+
+/// Writes how the program is used.
+pub fn say_usage<E: Sink>(err: &mut E)
+    ensures { IsSaid (E.written err.old) (E.written err.new) (E.faults err.old) (E.faults err.new) usage_line }
+{
+    say(
+        err,
+        b"usage: info F, show WHAT F, disasm F, asm F, strip F, canon F, cmp F G, validate F, gen N",
+    )
+}
+
+/// Writes that the output could not be written.
+pub fn say_write_fault<E: Sink>(err: &mut E)
+    ensures { IsSaid (E.written err.old) (E.written err.new) (E.faults err.old) (E.faults err.new) write_fault_line }
+{
+    say(err, b"write fault")
+}
+
+/// Writes why a command stopped.
+pub fn say_stop<E: Sink>(err: &mut E, stop: Stop<'_>)
+    ensures { IsSaid (E.written err.old) (E.written err.new) (E.faults err.old) (E.faults err.new) (message_of stop.entry) }
+{
+    match stop {
+        Stop::Grammar(name, refusal) => say_refusal(err, name, refusal),
+        Stop::ReadFault(name) => say_about(err, name, b"read fault", b"", b"", b""),
+        Stop::TooLarge(name) => say_about(err, name, b"more than 16777216 bytes", b"", b"", b""),
+        Stop::NoMemory => say(err, b"out of memory"),
+    }
+}
