@@ -1,1 +1,144 @@
 use super::*;
+use bk_base::Bytes;
+use bk_port::{FileList, MemHost, MemSink};
+use std::test::Fail;
+
+const USAGE: &str =
+    "beamkit: usage: info F, show WHAT F, disasm F, asm F, strip F, canon F, cmp F G, validate F, gen N\n";
+
+const SAMPLE: &[u8] = b"FOR1\0\0\0\x3cBEAM\
+AtU8\0\0\0\x06\0\0\0\x01\x01m\0\0\
+Code\0\0\0\x15\0\0\0\x10\0\0\0\0\0\0\0\x03\0\0\0\x01\0\0\0\0\x03\0\0\0\
+StrT\0\0\0\0";
+
+// What a call answered and wrote.
+#[derive(Drop)]
+struct Outcome {
+    status: Status,
+    out: MemSink,
+    err: MemSink,
+}
+
+// Calls the program with these words and the file `F`, with room for so many bytes of output.
+fn call(alloc: Global, words: &[&str], file: &[u8], room: usize) -> Result<Outcome, Fail> {
+    let mut list = WordList::new(alloc);
+    for word in words {
+        list.push(Text::from_bytes(alloc, word.as_bytes())?)?;
+    }
+    let mut bytes = Bytes::new(alloc);
+    bytes.extend(file)?;
+    let mut files = FileList::new(alloc);
+    files.push(Text::from_bytes(alloc, b"F")?, bytes)?;
+    let mut host = MemHost::new(files);
+    let mut out = MemSink::new(alloc, room)?;
+    let mut err = MemSink::new(alloc, 1000)?;
+    let status = run(alloc, &list, &mut host, &mut out, &mut err);
+    Ok(Outcome { status, out, err })
+}
+
+#[test]
+fn forms_are_told_or_refused(rt: HostRuntime) -> Result<(), Fail> {
+    let told = "form 60\nAtU8 6\nCode 21\nStrT 0\n";
+    let twice = b"FOR1\0\0\0\x14BEAMStrT\0\0\0\0StrT\0\0\0\0";
+    let odd = b"FOR1\0\0\0\x14BEAM\0a-1\0\0\0\x01*123";
+    for (file, status, output, message) in [
+        (SAMPLE, 0, told, ""),
+        (b"FOR1\0\0\0\x04BEAM".as_slice(), 0, "form 4\n", ""),
+        (odd.as_slice(), 3, "", "beamkit: F: size 20, found 16\n"),
+        (
+            b"FOR1\0\0\0\x10BEAM\0a-1\0\0\0\x01*123".as_slice(),
+            0,
+            "form 16\n#00612d31 1\n",
+            "",
+        ),
+        (
+            b"FOR1\0\0\0\x3dBEAM".as_slice(),
+            3,
+            "",
+            "beamkit: F: size 61, found 4\n",
+        ),
+        (b"", 3, "", "beamkit: F: not a BEAM file\n"),
+        (
+            b"FOR1\0\0\0\x3cBE".as_slice(),
+            3,
+            "",
+            "beamkit: F: not a BEAM file\n",
+        ),
+        (
+            b"FOR2\0\0\0\x04BEAM".as_slice(),
+            3,
+            "",
+            "beamkit: F: not a BEAM file\n",
+        ),
+        (b"\x1f\x8b".as_slice(), 3, "", "beamkit: F: gzip file\n"),
+        (
+            b"FOR1\0\0\0\x0cBEAMAtU8\0\0\0\x01".as_slice(),
+            3,
+            "",
+            "beamkit: F: chunk cut at 12\n",
+        ),
+        (
+            twice.as_slice(),
+            3,
+            "",
+            "beamkit: F: chunk StrT twice at 20\n",
+        ),
+    ] {
+        let found = call(rt.alloc(), &["info", "F"], file, 1000)?;
+        assert_eq!(rt; found.status.code(), status, "at {file:?}");
+        assert_eq!(rt; found.out.written(), output.as_bytes(), "at {file:?}");
+        assert_eq!(rt; found.err.written(), message.as_bytes(), "at {file:?}");
+    }
+    Ok(())
+}
+
+#[test]
+fn words_outside_the_grammar_are_refused(rt: HostRuntime) -> Result<(), Fail> {
+    for words in [
+        [].as_slice(),
+        &["info"],
+        &["info", ""],
+        &["info", "-x"],
+        &["info", "F", "F"],
+        &["Info", "F"],
+        &["show", "all", "F"],
+        &["cmp", "-", "-"],
+        &["--help"],
+    ] {
+        let found = call(rt.alloc(), words, SAMPLE, 1000)?;
+        assert_eq!(rt; found.status, Status::Usage, "at {words:?}");
+        assert_eq!(rt; found.out.written(), b"".as_slice());
+        assert_eq!(rt; found.err.written(), USAGE.as_bytes());
+    }
+    Ok(())
+}
+
+#[test]
+fn faults_and_limits_have_their_status(rt: HostRuntime) -> Result<(), Fail> {
+    let alloc = rt.alloc();
+    let full = call(alloc, &["info", "F"], SAMPLE, 5)?;
+    assert_eq!(rt; full.status, Status::WriteFault);
+    assert_eq!(rt; full.out.written(), b"form ".as_slice());
+    assert_eq!(rt; full.err.written(), b"beamkit: write fault\n".as_slice());
+    let large = vec![in alloc; 0u8; 16_777_217]?;
+    let refused = call(alloc, &["info", "F"], large.as_slice(), 1000)?;
+    assert_eq!(rt; refused.status, Status::TooLarge);
+    assert_eq!(rt;
+        refused.err.written(),
+        b"beamkit: F: more than 16777216 bytes\n".as_slice()
+    );
+    let mut words = WordList::new(alloc);
+    for word in ["info", "no such file"] {
+        words.push(Text::from_bytes(alloc, word.as_bytes())?)?;
+    }
+    let mut out = MemSink::new(alloc, 100)?;
+    let mut err = MemSink::new(alloc, 100)?;
+    let mut host = FileHost::new(rt);
+    let status = run(alloc, &words, &mut host, &mut out, &mut err);
+    assert_eq!(rt; status, Status::ReadFault);
+    assert_eq!(rt;
+        err.written(),
+        b"beamkit: no such file: read fault\n".as_slice()
+    );
+    Ok(())
+}

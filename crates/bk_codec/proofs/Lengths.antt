@@ -4,7 +4,7 @@ use Rattle.std.proofs.lemmas.Bool.{ltb-false}
 use Rattle.std.proofs.lemmas.List.{length-drop}
 use Rattle.byteorder.specs.Endian.{big_number}
 use Rattle.bk_codec.specs.Reading.{giving, byte_at, bytes_at, number_at}
-use Rattle.bk_codec.proofs.Steps.{ok_is, guard_ok}
+use Rattle.bk_codec.proofs.Steps.{ok_is, guard_err, guard_ok}
 
 pub byte_at-length : {E : Type 0} (cut : E) (bytes : List ℕ) (b : ℕ) (rest : List ℕ) → byte_at cut bytes ≡ Ok (b, rest) → length bytes ≡ length rest + 1
 byte_at-length cut [] b rest e = absurd cc
@@ -25,3 +25,11 @@ number_at-length {E} cut n bytes x rest e =
     let long : n ≤ length bytes = ltb-false _ _ g.0 in
     let is : drop n bytes ≡ rest = ap (λ (p : ℕ × List ℕ). p.1) (ok_is {E = E} (big_number n bytes, drop n bytes) (x, rest) g.1) in
     omega (arith, ap length is, length-drop n bytes)
+
+-- ---- the one refusal of a field
+
+pub bytes_at-refused : {E : Type 0} (cut : E) (n : ℕ) (bytes : List ℕ) (e : E) → bytes_at cut n bytes ≡ Err e → e ≡ cut
+bytes_at-refused cut n bytes e h = (guard_err (ltb (length bytes) n) cut (take n bytes, drop n bytes) e h).1
+
+pub number_at-refused : {E : Type 0} (cut : E) (n : ℕ) (bytes : List ℕ) (e : E) → number_at cut n bytes ≡ Err e → e ≡ cut
+number_at-refused cut n bytes e h = (guard_err (ltb (length bytes) n) cut (big_number n bytes, drop n bytes) e h).1

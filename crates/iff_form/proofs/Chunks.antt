@@ -13,16 +13,16 @@ use Rattle.iff_form.specs.Chunk.{PlainChunk, SpellsChunk, padding_of}
 use Rattle.iff_form.specs.Reading.{chunk_at}
 
 -- the parts of the reading that are left behind the id, the size and the payload
-abbrev chunk_of : List ℕ → List ℕ → PlainChunk
+abbrev pub chunk_of : List ℕ → List ℕ → PlainChunk
 chunk_of id payload = record { id = record { 0 = id }; payload = payload }
 
-abbrev behind_payload : FormRefusal → List ℕ → ℕ → List ℕ × List ℕ → Result (PlainChunk × List ℕ) FormRefusal
+abbrev pub behind_payload : FormRefusal → List ℕ → ℕ → List ℕ × List ℕ → Result (PlainChunk × List ℕ) FormRefusal
 behind_payload cut id size p = bytes_at cut (padding_of size) p.1 >>= λ q. giving (chunk_of id p.0) q.1
 
-abbrev behind_size : FormRefusal → List ℕ → ℕ × List ℕ → Result (PlainChunk × List ℕ) FormRefusal
+abbrev pub behind_size : FormRefusal → List ℕ → ℕ × List ℕ → Result (PlainChunk × List ℕ) FormRefusal
 behind_size cut id s = bytes_at cut s.0 s.1 >>= λ p. behind_payload cut id s.0 p
 
-abbrev behind_id : FormRefusal → List ℕ × List ℕ → Result (PlainChunk × List ℕ) FormRefusal
+abbrev pub behind_id : FormRefusal → List ℕ × List ℕ → Result (PlainChunk × List ℕ) FormRefusal
 behind_id cut i = number_at cut 4 i.1 >>= λ s. behind_size cut i.0 s
 
 -- the steps of a chunk that was read

@@ -2,3 +2,4 @@ pub mod Chunks
 pub mod Walk
 pub mod Whole
 pub mod Loop
+pub mod Refusals

@@ -38,7 +38,8 @@ offsets_from-push at (x ∷ chunks) c =
     let sum : at + chunk_size x + sum_by chunk_size chunks ≡ at + sum_by chunk_size (x ∷ chunks) = omega (arith, sum_by-cons chunk_size x chunks) in
     ap (λ (ns : List ℕ). at ∷ ns) (offsets_from-push (at + chunk_size x) chunks c ∙ ap (λ (n : ℕ). offsets_from (at + chunk_size x) chunks ++ n ∷ []) sum)
 
-first_of : (total m : ℕ) (before : List PlainChunk) (rest : List ℕ) (offset : ℕ) (read : Result (PlainChunk × List ℕ) FormRefusal) → length rest ≡ suc m → offset + length rest ≡ total
+-- the walk from a place where some bytes are left
+pub first_of : (total m : ℕ) (before : List PlainChunk) (rest : List ℕ) (offset : ℕ) (read : Result (PlainChunk × List ℕ) FormRefusal) → length rest ≡ suc m → offset + length rest ≡ total
     → chunk_at (ChunkCut offset) rest ≡ read → chunks_from total (length rest) before rest ≡ read >>= behind_chunk total m before offset
 first_of total m before [] offset read some place e = absurd (omega arith)
 first_of total m before (b ∷ rest) offset read some place e =

@@ -20,7 +20,7 @@ use Rattle.iff_form.proofs.Chunks.{chunk_agrees, chunk_shorter}
 
 -- ---- ids that differ
 
-same_id : IsEquivalence is_same_id
+pub same_id : IsEquivalence is_same_id
 same_id = on_equiv (λ c. c.id.0) nat_list_eq_equiv
 
 at_middle : (P : PlainChunk → Type 0) (xs : List PlainChunk) (c : PlainChunk) (more : List PlainChunk) → AllByRecursion P (xs ++ c ∷ more) → P c
@@ -111,16 +111,25 @@ walk_one total n before (b ∷ bytes) rest c some read new =
     ∙ bind_at_ok (chunk_at (ChunkCut at) (b ∷ bytes)) (behind_chunk total n before at) (c, rest) (read (ChunkCut at))
     ∙ ap (λ (t : Bool). cond t (Err (Twice c.id at)) (chunks_from total n (before ++ c ∷ []) rest)) new
 
+-- chunks at the front, of ids that are new and differ
+pub walk_through : (total n : ℕ) (before more : List PlainChunk) (text rest : List ℕ) → length text + length rest ≤ n → SpellsMany SpellsChunk more text → AreDistinct (before ++ more)
+    → chunks_from total n before (text ++ rest) ≡ chunks_from total (length rest) (before ++ more) rest
+walk_through total n before [] text rest le is distinct =
+    ap (λ (t : List ℕ). chunks_from total n before (t ++ rest)) is
+    ∙ chunks_from-bound total n (length rest) before rest (omega (arith, le)) (omega arith)
+    ∙ ap (λ (cs : List PlainChunk). chunks_from total (length rest) cs rest) (sym (append-nil before))
+walk_through total zero before (c ∷ more) text rest le is distinct =
+    absurd (omega (arith, ap length is.joined, length-append is.front is.back, length-chunk c is.front is.front_is))
+walk_through total (suc n) before (c ∷ more) text rest le is distinct =
+    let sizes : length text ≡ chunk_size c + length is.back = omega (arith, ap length is.joined, length-append is.front is.back, length-chunk c is.front is.front_is) in
+    let whole : text ++ rest ≡ is.front ++ (is.back ++ rest) = ap (λ (t : List ℕ). t ++ rest) is.joined ∙ append_assoc is.front is.back rest in
+    let read : (cut : FormRefusal) → chunk_at cut (text ++ rest) ≡ Ok (c, is.back ++ rest) = λ cut. ap (chunk_at cut) whole ∙ (chunk_agrees cut).again c is.front (is.back ++ rest) is.front_is in
+    let regrouped : (before ++ c ∷ []) ++ more ≡ before ++ c ∷ more = append_assoc before (c ∷ []) more in
+    walk_one total n before (text ++ rest) (is.back ++ rest) c (omega (arith, length-append text rest)) read (not_before before c more distinct)
+    ∙ walk_through total n (before ++ c ∷ []) more is.back rest (omega arith) is.back_is (subst AreDistinct (sym regrouped) distinct)
+    ∙ ap (λ (cs : List PlainChunk). chunks_from total (length rest) cs rest) regrouped
+
 pub walk_again : (total n : ℕ) (before more : List PlainChunk) (bytes : List ℕ) → length bytes ≤ n → SpellsMany SpellsChunk more bytes → AreDistinct (before ++ more)
     → chunks_from total n before bytes ≡ Ok (before ++ more)
-walk_again total n before [] bytes le is distinct =
-    ap (chunks_from total n before) is ∙ none_left total n before ∙ ap (λ (cs : List PlainChunk). Ok cs) (sym (append-nil before))
-walk_again total zero before (c ∷ more) bytes le is distinct =
-    absurd (omega (arith, ap length is.joined, length-append is.front is.back, length-chunk c is.front is.front_is))
-walk_again total (suc n) before (c ∷ more) bytes le is distinct =
-    let sizes : length bytes ≡ chunk_size c + length is.back = omega (arith, ap length is.joined, length-append is.front is.back, length-chunk c is.front is.front_is) in
-    let read : (cut : FormRefusal) → chunk_at cut bytes ≡ Ok (c, is.back) = λ cut. ap (chunk_at cut) is.joined ∙ (chunk_agrees cut).again c is.front is.back is.front_is in
-    let regrouped : (before ++ c ∷ []) ++ more ≡ before ++ c ∷ more = append_assoc before (c ∷ []) more in
-    walk_one total n before bytes is.back c (omega arith) read (not_before before c more distinct)
-    ∙ walk_again total n (before ++ c ∷ []) more is.back (omega arith) is.back_is (subst AreDistinct (sym regrouped) distinct)
-    ∙ ap (λ (cs : List PlainChunk). Ok cs) regrouped
+walk_again total n before more bytes le is distinct =
+    ap (chunks_from total n before) (sym (append-nil bytes)) ∙ walk_through total n before more bytes [] (omega (arith, le)) is distinct ∙ none_left total 0 (before ++ more)

@@ -1,6 +1,6 @@
 -- A whole form: what is read is one, and each one is read.
 use Rattle.std.proofs.Common.{◌≡◌, ◌⊎◌, ℕ, zero, suc, ◌+◌, ◌-◌, ◌^◌, ◌<◌, ◌≤◌, Bool, true, false, cond, not, eqb, ◌&&◌, List, [], ◌∷◌, ◌++◌, length, take, drop, Result, Ok, Err, refl, sym, ap, subst, ◌∙◌, append_assoc, arith, inl, inr, length-append}
-use Rattle.std.proofs.lemmas.Bool.Decides.{Decides-and, Decides-eqb, Decides-ltb}
+use Rattle.std.proofs.lemmas.Bool.Decides.{Decides-and, Decides-eqb, Decides-like, Decides-ltb}
 use Rattle.std.proofs.lemmas.Slice.Eq.{bytes_eq-Decides}
 use Rattle.std.proofs.lemmas.List.{length-drop, drop-drop, take-append-drop}
 use Rattle.std.specs.Bool.{Decides}
@@ -18,30 +18,30 @@ use Rattle.iff_form.specs.declared.refusal.FormRefusal.{FormRefusal}
 use Rattle.iff_form.specs.declared.refusal.FormRefusal.TheVariants.{Gzip, NotBeam, Size, NoMemory}
 use Rattle.iff_form.specs.Chunk.{PlainChunk, SpellsChunk, chunk_size, is_same_id}
 use Rattle.iff_form.specs.Form.{AreDistinct, IsForm, form_size, head_of}
+use Rattle.iff_form.specs.Refusal.{IsMarked}
 use Rattle.iff_form.specs.Reading.{is_marked, stated_size, size_of, form_of, chunks_from}
 use Rattle.iff_form.proofs.Walk.{Walked, walk_takes, walk_again, length-chunks}
 
--- the two marks stand
-abbrev pub IsMarked : List ℕ → Type 0
-IsMarked bytes = ((12 ≤ length bytes) × (take 4 bytes ≡ codes "FOR1")) × (take 4 (drop 8 bytes) ≡ codes "BEAM")
-
+-- the test of the marks decides whether they stand
 pub marks : (bytes : List ℕ) → Decides (is_marked bytes) (IsMarked bytes)
 marks bytes =
-    Decides-and (nat_le 12 (length bytes) && bytes_eq (take 4 bytes) (codes "FOR1")) (bytes_eq (take 4 (drop 8 bytes)) (codes "BEAM"))
+    Decides-like (is_marked bytes) (λ p. record { long = p.0.0; first = p.0.1; second = p.1 }) (λ m. ((m.long, m.first), m.second))
+    (Decides-and (nat_le 12 (length bytes) && bytes_eq (take 4 bytes) (codes "FOR1")) (bytes_eq (take 4 (drop 8 bytes)) (codes "BEAM"))
     (Decides-and (nat_le 12 (length bytes)) (bytes_eq (take 4 bytes) (codes "FOR1")) (Decides-ltb 11 (length bytes)) (bytes_eq-Decides (take 4 bytes) (codes "FOR1")))
-    (bytes_eq-Decides (take 4 (drop 8 bytes)) (codes "BEAM"))
+    (bytes_eq-Decides (take 4 (drop 8 bytes)) (codes "BEAM")))
 
-not_false : (b : Bool) → not b ≡ false → b ≡ true
+pub not_false : (b : Bool) → not b ≡ false → b ≡ true
 not_false true e = refl
 not_false false e = absurd cc
 
 -- the tests before the chunks were passed
-record Headed (bytes : List ℕ) (size : ℕ) : Type 0 where
-  marked : is_marked bytes ≡ true
-  sized : (stated_size bytes == length bytes - 8) ≡ true
-  is : stated_size bytes ≡ size
+pub record Headed (bytes : List ℕ) (size : ℕ) : Type 0 where
+  pub other : starts_with nat_eq bytes (31 ∷ 139 ∷ []) ≡ false
+  pub marked : is_marked bytes ≡ true
+  pub sized : (stated_size bytes == length bytes - 8) ≡ true
+  pub is : stated_size bytes ≡ size
 
-headed : (bytes : List ℕ) (size : ℕ) → size_of bytes ≡ Ok size → Headed bytes size
+pub headed : (bytes : List ℕ) (size : ℕ) → size_of bytes ≡ Ok size → Headed bytes size
 unfolding size_of
 headed bytes size e =
     let found : ℕ = length bytes - 8 in
@@ -51,7 +51,7 @@ headed bytes size e =
     let first = guard_ok (starts_with nat_eq bytes (31 ∷ 139 ∷ [])) Gzip marked size e in
     let second = guard_ok (not (is_marked bytes)) NotBeam sized size first.1 in
     let third = guard_ok (not (stated == found)) (Size stated found) (Ok stated) size second.1 in
-    record { marked = not_false (is_marked bytes) second.0; sized = not_false (stated == found) third.0; is = ok_is {E = FormRefusal} stated size third.1 }
+    record { other = first.0; marked = not_false (is_marked bytes) second.0; sized = not_false (stated == found) third.0; is = ok_is {E = FormRefusal} stated size third.1 }
 
 -- twelve bytes, in three parts, and what is behind them
 split_head : (bytes : List ℕ) → bytes ≡ (take 4 bytes ++ (take 4 (drop 4 bytes) ++ take 4 (drop 8 bytes))) ++ drop 12 bytes
@@ -64,7 +64,7 @@ split_head bytes =
 head_is : (a b c body : List ℕ) (size : ℕ) → a ≡ codes "FOR1" → b ≡ big_bytes 4 size → c ≡ codes "BEAM" → (a ++ (b ++ c)) ++ body ≡ head_of size ++ body
 head_is a b c body size a_is b_is c_is = ap (λ (h : List ℕ). h ++ body) (ap (λ (x : List ℕ). x ++ (b ++ c)) a_is ∙ ap (λ (x : List ℕ). codes "FOR1" ++ (x ++ c)) b_is ∙ ap (λ (x : List ℕ). codes "FOR1" ++ (big_bytes 4 size ++ x)) c_is)
 
-IsDistinct-none : AreDistinct []
+pub IsDistinct-none : AreDistinct []
 unfolding IsDistinct
 IsDistinct-none = tt
 
@@ -80,7 +80,7 @@ form_takes bytes size chunks fits e walk =
     let marked : IsMarked bytes = (marks bytes).0 h.marked in
     let body : List ℕ = drop 12 bytes in
     let stated : ℕ = stated_size bytes in
-    let long : 12 ≤ length bytes = marked.0.0 in
+    let long : 12 ≤ length bytes = marked.long in
     let found : stated ≡ length bytes - 8 = (Decides-eqb stated (length bytes - 8)).0 h.sized in
     let body_len : length body ≡ length bytes - 12 = length-drop 12 bytes in
     let word : stated ≡ 4 + length body = omega (arith, found, body_len, long) in
@@ -94,7 +94,7 @@ form_takes bytes size chunks fits e walk =
         spelled = spelled;
         distinct = walked.distinct;
         fits = omega (arith, word, below);
-        joined = split_head bytes ∙ head_is (take 4 bytes) (take 4 (drop 4 bytes)) (take 4 (drop 8 bytes)) body (4 + length body) marked.0.1 (sym size_bytes ∙ ap (big_bytes 4) word) marked.1;
+        joined = split_head bytes ∙ head_is (take 4 bytes) (take 4 (drop 4 bytes)) (take 4 (drop 8 bytes)) body (4 + length body) marked.first (sym size_bytes ∙ ap (big_bytes 4) word) marked.second;
       };
       size_is = sym h.is ∙ word ∙ ap (λ (n : ℕ). 4 + n) (length-chunks chunks body spelled);
     }
@@ -106,7 +106,7 @@ form_of_parts chunks body fits spelled distinct =
     let bytes : List ℕ = head_of size ++ body in
     let stated : stated_size bytes ≡ size = big_number-reads_back 4 size (codes "BEAM" ++ body) (omega (arith, fits)) in
     let sized : (stated_size bytes == length bytes - 8) ≡ true = (Decides-eqb (stated_size bytes) (length bytes - 8)).1 (omega (arith, stated)) in
-    let marked : is_marked bytes ≡ true = (marks bytes).1 ((omega arith, refl), refl) in
+    let marked : is_marked bytes ≡ true = (marks bytes).1 (record { long = omega arith; first = refl; second = refl }) in
     let walked : chunks_from (length bytes) (length bytes) [] body ≡ Ok chunks = walk_again (length bytes) (length bytes) [] chunks body (omega arith) spelled distinct in
     let head : size_of bytes ≡ Ok (stated_size bytes) =
     ap (λ (m : Bool). cond (not m) (Err NotBeam) (cond (not (stated_size bytes == length bytes - 8)) (Err (Size (stated_size bytes) (length bytes - 8))) (Ok (stated_size bytes)))) marked

@@ -2,4 +2,5 @@ pub mod Chunk
 pub mod Form
 pub mod Kept
 pub mod Reading
+pub mod Refusal
 pub mod Text

@@ -6,6 +6,7 @@ mod form;
 mod id;
 mod id_text;
 mod info;
+mod laws;
 mod reading;
 mod refusal;
 
@@ -14,5 +15,6 @@ pub use form::Form;
 pub use id::Id;
 pub use id_text::IdText;
 pub use info::info_text;
+pub use laws::{one_form, reading_is_exact};
 pub use reading::read_form;
 pub use refusal::FormRefusal;

@@ -1,9 +1,10 @@
 //! Reading a form.
 
-ghost use Rattle.std.specs.Prelude.{◌≡◌, ◌⊎◌, ◌+◌, ◌-◌, ◌<◌, ◌≤◌, List, [], length, drop, map, Ok, Err, IfOk, OnOk};
+ghost use Rattle.std.specs.Prelude.{◌≡◌, ◌⊎◌, ◌+◌, ◌-◌, ◌<◌, ◌≤◌, List, [], length, drop, map, Ok, Err, IfOk, IfErr, OnOk};
 ghost use Rattle.bk_codec.specs.Reading.{Gives, GivesAll};
 ghost use Rattle.iff_form.specs.Chunk.{PlainChunk, plain, plains, chunk_size, padding_of};
 ghost use Rattle.iff_form.specs.Form.{IsForm, offsets_from};
+ghost use Rattle.iff_form.specs.Refusal.{Refuses};
 ghost use Rattle.iff_form.specs.Reading.{chunk_at, chunks_from, form_of, is_marked, size_of};
 
 use crate::chunk::Chunk;
@@ -121,7 +122,9 @@ pub fn read_form<'a>(alloc: Global, bytes: &'a [u8]) -> Result<Form<'a>, FormRef
     ensures found { IfOk result (λ chunks. IsForm chunks bytes.now) }
     // Each form is read, unless memory runs out.
     ensures only { (chunks : List PlainChunk) → IsForm chunks bytes.now → (result ≡ Ok chunks) ⊎ (result ≡ Err FormRefusal.NoMemory) }
-    // Which refusal it is.
+    // Each refusal has its reason.
+    ensures refused { IfErr result (λ e. (e ≡ FormRefusal.NoMemory) ⊎ Refuses e bytes.now) }
+    // What the reading from left to right gives.
     ensures exact { GivesAll FormRefusal.NoMemory (λ chunks. chunks) result (form_of bytes.now) }
 {
     whole_form(alloc, bytes)
