@@ -1,11 +1,11 @@
 -- What a call of the program leaves, by its status.
-use Rattle.std.specs.Prelude.{◌≡◌, ◌++◌, ℕ, List, [], ◌∷◌, Option, IfSome, Any, ⊤, ◌⊎◌}
+use Rattle.std.specs.Prelude.{◌≡◌, ℕ, List, [], ◌∷◌, Option, IfSome, Any, ⊤, ◌⊎◌}
 use Rattle.bk_port.specs.Causes.{Rose}
 use Rattle.bk_port.specs.Known.{after_known}
 use Rattle.bk_port.specs.Reading.{IsLeftAfter}
 use Rattle.bk_port.specs.Writing.{WritesPart}
 use Rattle.beam_cli.specs.declared.status.Status.{Status}
-use Rattle.beam_cli.specs.declared.status.Status.TheVariants.{Done, Refused, Usage, Grammar, ReadFault, WriteFault, TooLarge, NoMemory}
+use Rattle.beam_cli.specs.declared.status.Status.TheVariants.{Done, Refused, ReadFault, WriteFault, NoMemory}
 use Rattle.beam_cli.specs.Answer.{Answer}
 use Rattle.beam_cli.specs.Message.{read_fault_line, write_fault_line, no_memory_line}
 

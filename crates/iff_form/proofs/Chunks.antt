@@ -1,13 +1,11 @@
 -- A chunk that is read is spelled there, and a chunk that is spelled is read, whatever follows.
-use Rattle.std.proofs.Common.{◌≡◌, ℕ, ◌+◌, ◌-◌, ◌%◌, ◌^◌, ◌<◌, ◌≤◌, List, [], ◌∷◌, ◌++◌, length, Result, Ok, Err, refl, sym, ap, subst, ◌∙◌, append_assoc, arith, length-append}
+use Rattle.std.proofs.Common.{◌≡◌, ℕ, ◌+◌, ◌≤◌, List, ◌++◌, length, Result, Ok, refl, ap, subst, ◌∙◌, append_assoc, arith}
 use Rattle.byteorder.specs.Endian.{big_bytes}
 use Rattle.bk_codec.specs.Reading.{◌>>=◌, giving, bytes_at, number_at}
-use Rattle.bk_codec.specs.Spelling.{IsBytes, SpellsNumber}
+use Rattle.bk_codec.specs.Spelling.{IsBytes}
 use Rattle.bk_codec.proofs.Steps.{bind_ok, bind_at_ok, ok_is}
 use Rattle.bk_codec.proofs.Agreement.{Agrees, Takes, bytes_agree, number_agrees}
 use Rattle.bk_codec.proofs.Lengths.{bytes_at-length, number_at-length}
-use Rattle.bk_codec.proofs.ToTheEnd.{Shrinks}
-use Rattle.iff_form.specs.declared.id.Id.{Id}
 use Rattle.iff_form.specs.declared.refusal.FormRefusal.{FormRefusal}
 use Rattle.iff_form.specs.Chunk.{PlainChunk, SpellsChunk, padding_of}
 use Rattle.iff_form.specs.Reading.{chunk_at}

@@ -1,5 +1,5 @@
 -- The loop over the chunks of a form.
-use Rattle.std.proofs.Common.{◌≡◌, ◌⊎◌, ℕ, zero, suc, ◌+◌, ◌-◌, ◌<◌, ◌≤◌, Bool, true, false, cond, ◌||◌, List, [], ◌∷◌, ◌++◌, length, drop, Result, Ok, Err, refl, sym, ap, subst, ◌∙◌, append_assoc, arith, inl, inr, add-zero, add_assoc}
+use Rattle.std.proofs.Common.{◌≡◌, ℕ, suc, ◌+◌, ◌-◌, ◌<◌, ◌≤◌, Bool, true, false, cond, ◌||◌, List, [], ◌∷◌, ◌++◌, length, drop, Result, Ok, Err, refl, sym, ap, subst, ◌∙◌, arith, inl, inr, add-zero}
 use Rattle.std.specs.Prelude.{map, Option, None, Some, IsNone, OnSome, IsTrue, ◌↔◌}
 use Rattle.std.specs.List.{list_any, sum_by}
 use Rattle.std.specs.Ordering.{is_eq, nat_cmp}
@@ -13,7 +13,6 @@ use Rattle.std.proofs.lemmas.Cmp.{nat_list_eq_equiv}
 use Rattle.std.proofs.lemmas.List.Sums.{sum_by-cons, sum_by-append}
 use Rattle.bk_base.specs.Place.{Place, moved}
 use Rattle.bk_codec.specs.Reading.{◌>>=◌, giving, Fails}
-use Rattle.bk_codec.proofs.Steps.{bind_at_ok, bind_at_err}
 use Rattle.iff_form.specs.declared.chunk.Chunk.{Chunk}
 use Rattle.iff_form.specs.declared.refusal.FormRefusal.{FormRefusal}
 use Rattle.iff_form.specs.declared.refusal.FormRefusal.TheVariants.{ChunkCut, Twice, NoMemory}

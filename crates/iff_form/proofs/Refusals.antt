@@ -1,5 +1,5 @@
 -- A reading is refused exactly for its reason.
-use Rattle.std.proofs.Common.{◌≡◌, ◌⊎◌, ℕ, zero, suc, ◌+◌, ◌-◌, ◌<◌, ◌≤◌, Bool, true, false, cond, not, List, [], ◌∷◌, ◌++◌, length, take, drop, Result, Ok, Err, refl, sym, ap, subst, ◌∙◌, append_assoc, arith, inl, inr, length-append}
+use Rattle.std.proofs.Common.{◌≡◌, ◌⊎◌, ℕ, zero, suc, ◌+◌, ◌-◌, ◌≤◌, Bool, true, false, cond, not, List, [], ◌∷◌, ◌++◌, length, take, drop, Result, Ok, Err, refl, sym, ap, subst, ◌∙◌, append_assoc, arith, inl, inr, length-append}
 use Rattle.std.specs.Prelude.{◌==◌, nat_eq, Any, IfErr, codes}
 use Rattle.byteorder.specs.Endian.{big_number}
 use Rattle.byteorder.specs.Numbers.{big_number-reads_back}
@@ -10,10 +10,10 @@ use Rattle.std.proofs.lemmas.List.{append-nil, drop_at, take_at, length-drop}
 use Rattle.std.proofs.lemmas.List.Folds.{Any-from_list_any, list_any-from_Any}
 use Rattle.std.proofs.lemmas.Map.Keys.{IsDistinct-push}
 use Rattle.std.proofs.lemmas.Slice.Eq.{bytes_eq-Decides}
-use Rattle.bk_codec.specs.Reading.{◌>>=◌, GivesAll, giving, bytes_at, number_at}
+use Rattle.bk_codec.specs.Reading.{GivesAll, giving, bytes_at, number_at}
 use Rattle.bk_codec.specs.Spelling.{IsBytes, SpellsMany}
 use Rattle.bk_codec.proofs.Steps.{bind_ok, bind_err, bind_at_ok, bind_at_err, chosen, err_is, ok_is}
-use Rattle.bk_codec.proofs.Agreement.{Agrees, Takes, IsBytes-drop}
+use Rattle.bk_codec.proofs.Agreement.{Takes, IsBytes-drop}
 use Rattle.bk_codec.proofs.Lengths.{bytes_at-refused, number_at-refused}
 use Rattle.iff_form.specs.declared.id.Id.{Id}
 use Rattle.iff_form.specs.declared.refusal.FormRefusal.{FormRefusal}
@@ -21,9 +21,9 @@ use Rattle.iff_form.specs.declared.refusal.FormRefusal.TheVariants.{Gzip, NotBea
 use Rattle.iff_form.specs.Chunk.{PlainChunk, SpellsChunk, padding_of, is_same_id}
 use Rattle.iff_form.specs.Form.{AreDistinct, IsForm}
 use Rattle.iff_form.specs.Reading.{chunk_at, chunks_from, is_marked, stated_size, size_of, form_of}
-use Rattle.iff_form.specs.Refusal.{Refuses, IsGzip, IsMarked, IsHeaded, GoesTo, IsCut, IsTwice}
+use Rattle.iff_form.specs.Refusal.{Refuses, IsGzip, IsHeaded, GoesTo, IsCut, IsTwice}
 use Rattle.iff_form.proofs.Chunks.{behind_id, behind_size, behind_payload, chunk_of, chunk_agrees, chunk_shorter}
-use Rattle.iff_form.proofs.Whole.{Headed, IsDistinct-none, form_again, form_takes, headed, marks, not_false}
+use Rattle.iff_form.proofs.Whole.{IsDistinct-none, form_again, form_takes, headed, marks, not_false}
 use Rattle.iff_form.proofs.Walk.{behind_chunk, none_left, same_id, step, walk_through}
 use Rattle.iff_form.proofs.Loop.{first_of, is_twice}
 

@@ -1,5 +1,5 @@
 -- The chunks of a form, one after another.
-use Rattle.std.proofs.Common.{◌≡◌, ◌⊎◌, ℕ, zero, suc, ◌+◌, ◌-◌, ◌<◌, ◌≤◌, Bool, true, false, cond, ◌||◌, List, [], ◌∷◌, ◌++◌, length, Result, Ok, Err, refl, sym, ap, subst, ◌∙◌, append_assoc, arith, inl, inr, length-append}
+use Rattle.std.proofs.Common.{◌≡◌, ℕ, zero, suc, ◌+◌, ◌-◌, ◌<◌, ◌≤◌, Bool, false, cond, List, [], ◌∷◌, ◌++◌, length, Result, Ok, Err, refl, sym, ap, subst, ◌∙◌, append_assoc, arith, length-append}
 use Rattle.std.proofs.lemmas.List.{append-nil}
 use Rattle.std.proofs.lemmas.Cmp.{on_equiv, nat_list_eq_equiv}
 use Rattle.std.proofs.lemmas.Map.Keys.{IsDistinct-head, IsDistinct-tail, IsDistinct-push}
@@ -10,10 +10,9 @@ use Rattle.byteorder.specs.Endian.{big_bytes}
 use Rattle.bk_codec.specs.Reading.{◌>>=◌}
 use Rattle.bk_codec.specs.Spelling.{IsBytes, SpellsMany}
 use Rattle.bk_codec.proofs.Steps.{bind_ok, bind_same, bind_at_ok, ok_is, guard_ok}
-use Rattle.bk_codec.proofs.Agreement.{Agrees, Takes}
 use Rattle.iff_form.specs.declared.refusal.FormRefusal.{FormRefusal}
 use Rattle.iff_form.specs.declared.refusal.FormRefusal.TheVariants.{ChunkCut, Twice}
-use Rattle.iff_form.specs.Chunk.{PlainChunk, SpellsChunk, padding_of, chunk_size, is_same_id}
+use Rattle.iff_form.specs.Chunk.{PlainChunk, SpellsChunk, chunk_size, is_same_id}
 use Rattle.iff_form.specs.Form.{AreDistinct}
 use Rattle.iff_form.specs.Reading.{chunk_at, chunks_from}
 use Rattle.iff_form.proofs.Chunks.{chunk_agrees, chunk_shorter}

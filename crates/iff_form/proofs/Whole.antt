@@ -1,5 +1,5 @@
 -- A whole form: what is read is one, and each one is read.
-use Rattle.std.proofs.Common.{◌≡◌, ◌⊎◌, ℕ, zero, suc, ◌+◌, ◌-◌, ◌^◌, ◌<◌, ◌≤◌, Bool, true, false, cond, not, eqb, ◌&&◌, List, [], ◌∷◌, ◌++◌, length, take, drop, Result, Ok, Err, refl, sym, ap, subst, ◌∙◌, append_assoc, arith, inl, inr, length-append}
+use Rattle.std.proofs.Common.{◌≡◌, ◌⊎◌, ℕ, ◌+◌, ◌-◌, ◌^◌, ◌<◌, ◌≤◌, Bool, true, false, cond, not, ◌&&◌, List, [], ◌∷◌, ◌++◌, length, take, drop, Result, Ok, Err, refl, sym, ap, subst, ◌∙◌, append_assoc, arith, inl, inr}
 use Rattle.std.proofs.lemmas.Bool.Decides.{Decides-and, Decides-eqb, Decides-like, Decides-ltb}
 use Rattle.std.proofs.lemmas.Slice.Eq.{bytes_eq-Decides}
 use Rattle.std.proofs.lemmas.List.{length-drop, drop-drop, take-append-drop}
@@ -7,7 +7,7 @@ use Rattle.std.specs.Bool.{Decides}
 use Rattle.std.specs.Prelude.{codes, nat_eq, nat_le, ◌==◌}
 use Rattle.std.specs.List.{starts_with, IsDistinct}
 use Rattle.std.specs.Str.{bytes_eq}
-use Rattle.byteorder.specs.Endian.{big_number, big_bytes}
+use Rattle.byteorder.specs.Endian.{big_bytes}
 use Rattle.byteorder.specs.Numbers.{big_from-lt, big_number-reads_back}
 use Rattle.bk_codec.specs.Reading.{GivesAll}
 use Rattle.bk_codec.specs.Spelling.{IsBytes, SpellsMany}
@@ -16,11 +16,11 @@ use Rattle.bk_codec.proofs.Numbers.{big_bytes-big_number}
 use Rattle.bk_codec.proofs.Agreement.{IsBytes-drop}
 use Rattle.iff_form.specs.declared.refusal.FormRefusal.{FormRefusal}
 use Rattle.iff_form.specs.declared.refusal.FormRefusal.TheVariants.{Gzip, NotBeam, Size, NoMemory}
-use Rattle.iff_form.specs.Chunk.{PlainChunk, SpellsChunk, chunk_size, is_same_id}
+use Rattle.iff_form.specs.Chunk.{PlainChunk, SpellsChunk}
 use Rattle.iff_form.specs.Form.{AreDistinct, IsForm, form_size, head_of}
 use Rattle.iff_form.specs.Refusal.{IsMarked}
 use Rattle.iff_form.specs.Reading.{is_marked, stated_size, size_of, form_of, chunks_from}
-use Rattle.iff_form.proofs.Walk.{Walked, walk_takes, walk_again, length-chunks}
+use Rattle.iff_form.proofs.Walk.{walk_takes, walk_again, length-chunks}
 
 -- the test of the marks decides whether they stand
 pub marks : (bytes : List ℕ) → Decides (is_marked bytes) (IsMarked bytes)

@@ -1,10 +1,9 @@
 -- Reading a form from the left, with the first refusal that is met.
-use Rattle.std.specs.Prelude.{◌≡◌, ℕ, zero, suc, ◌+◌, ◌-◌, ◌==◌, ◌&&◌, List, [], ◌∷◌, ◌++◌, length, take, drop, slice_index, Result, Ok, Err, nat_lt, if◌then◌else◌, codes, nat_eq, nat_le, not, Bool}
+use Rattle.std.specs.Prelude.{ℕ, zero, suc, ◌-◌, ◌==◌, ◌&&◌, List, [], ◌∷◌, ◌++◌, length, take, drop, Result, Ok, Err, if◌then◌else◌, codes, nat_eq, nat_le, not, Bool}
 use Rattle.std.specs.List.{list_any, starts_with}
 use Rattle.std.specs.Str.{bytes_eq}
 use Rattle.byteorder.specs.Endian.{big_number}
 use Rattle.bk_codec.specs.Reading.{◌>>=◌, giving, bytes_at, number_at}
-use Rattle.iff_form.specs.declared.id.Id.{Id}
 use Rattle.iff_form.specs.declared.refusal.FormRefusal.{FormRefusal}
 use Rattle.iff_form.specs.declared.refusal.FormRefusal.TheVariants.{Gzip, NotBeam, Size, ChunkCut, Twice}
 use Rattle.iff_form.specs.Chunk.{PlainChunk, padding_of, is_same_id}

@@ -1,6 +1,5 @@
 use Rattle.std.proofs.Common.{arith}
 use Rattle.iff_form.specs.Chunk.{plains}
-use Rattle.iff_form.specs.Kept.{IsKept}
 use Rattle.iff_form.proofs.Whole.{form_takes}
 use Rattle.iff_form.proofs.reading.whole_form.Goals as goal
 

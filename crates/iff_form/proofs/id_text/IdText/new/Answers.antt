@@ -1,4 +1,4 @@
-use Rattle.std.proofs.Common.{◌≡◌, ◌∙◌, sym, ap, List, ℕ, Bool, true, cond, ◌∷◌, [], ◌++◌}
+use Rattle.std.proofs.Common.{◌∙◌, sym, ap, Bool, cond, ◌∷◌, [], ◌++◌}
 use Rattle.std.specs.Prelude.{codes}
 use Rattle.std.proofs.lemmas.List.{take_at}
 use Rattle.hex.specs.Hex.{encode_lower}
