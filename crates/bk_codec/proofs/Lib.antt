@@ -2,4 +2,6 @@ pub mod Steps
 pub mod Numbers
 pub mod Agreement
 pub mod Loop
+pub mod Counted
+pub mod Ended
 pub mod ToTheEnd
