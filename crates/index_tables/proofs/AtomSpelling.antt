@@ -1,0 +1,56 @@
+-- Atoms are read where they are spelled.
+use Rattle.std.proofs.Common.{◌≡◌, ℕ, ◌+◌, ◌<◌, Bool, true, false, cond, List, [], ◌∷◌, ◌++◌, length, get_or, Result, Ok, Err, refl, sym, ap, subst, ◌∙◌, arith}
+use Rattle.std.specs.Str.{IsUtf8, is_utf8}
+use Rattle.std.proofs.lemmas.Str.{IsUtf8-from_is_utf8, is_utf8-from_IsUtf8}
+use Rattle.bk_codec.specs.Reading.{◌>>=◌, giving, byte_at, bytes_at}
+use Rattle.bk_codec.specs.Spelling.{IsBytes, SpellsCounted}
+use Rattle.bk_codec.proofs.Steps.{bind_ok, ok_is}
+use Rattle.bk_codec.proofs.Agreement.{Agrees, Takes, Takes-then, Takes-weaker, byte_agrees, bytes_agree}
+use Rattle.bk_codec.proofs.Counted.{counted_agrees}
+use Rattle.index_tables.specs.declared.refusal.TableRefusal.{TableRefusal}
+use Rattle.index_tables.specs.declared.refusal.TableRefusal.TheVariants.{Cut, AtomUtf8}
+use Rattle.index_tables.specs.Atoms.{SpellsAtom, SpellsAtoms}
+use Rattle.index_tables.specs.Reading.{text_of, atom_at, atoms_at}
+
+-- bytes that are the text of atom n
+text_ok : (b : Bool) (n : ℕ) (bytes x : List ℕ) → cond b (Ok bytes) (Err (AtomUtf8 n)) ≡ Ok x → (b ≡ true) × (bytes ≡ x)
+text_ok true n bytes x e = (refl, ok_is {E = TableRefusal} bytes x e)
+text_ok false n bytes x e = absurd cc
+
+-- the length, and the name behind it
+atom_spelled : (name : List ℕ) (len : ℕ) (bytes behind rest : List ℕ) → IsBytes bytes → IsUtf8 name
+    → Takes (λ text. text ≡ len ∷ []) bytes behind → Takes (λ text. (text ≡ name) × (length name ≡ len)) behind rest → Takes (SpellsAtom name) bytes rest
+atom_spelled name len bytes behind rest fits utf8 first second =
+    let start : get_or bytes 0 0 ≡ len = ap (λ (t : List ℕ). get_or t 0 0) first.joined ∙ ap (λ (t : List ℕ). get_or (t ++ behind) 0 0) first.is in
+    let below : length name < 256 = omega (arith, start, second.is.1, fits 0) in
+    Takes-weaker (λ text is. (
+      utf8,
+      below,
+      is.joined ∙ ap (λ (t : List ℕ). t ++ is.back) is.front_is ∙ ap (λ (t : List ℕ). len ∷ t) is.back_is.0 ∙ ap (λ (l : ℕ). l ∷ name) (sym is.back_is.1),
+    )) (Takes-then first second)
+
+atom_takes : (n : ℕ) (bytes x rest : List ℕ) → IsBytes bytes → atom_at n bytes ≡ Ok (x, rest) → Takes (SpellsAtom x) bytes rest
+unfolding atom_at
+atom_takes n bytes x rest fits e =
+    let a = bind_ok (byte_at Cut bytes) (λ len. bytes_at Cut len.0 len.1 >>= λ name. text_of n name.0 >>= λ text. giving text name.1) (x, rest) e in
+    let b = bind_ok (bytes_at Cut a.0.0 a.0.1) (λ name. text_of n name.0 >>= λ text. giving text name.1) (x, rest) a.2 in
+    let c = bind_ok (text_of n b.0.0) (λ text. giving text b.0.1) (x, rest) b.2 in
+    let text = text_ok (is_utf8 b.0.0) n b.0.0 c.0 c.1 in
+    let first = (byte_agrees Cut).takes bytes a.0.0 a.0.1 fits a.1 in
+    let second = (bytes_agree Cut a.0.0).takes a.0.1 b.0.0 b.0.1 first.fits b.1 in
+    let took = atom_spelled b.0.0 a.0.0 bytes a.0.1 b.0.1 fits (IsUtf8-from_is_utf8 b.0.0 text.0) first second in
+    let same : (b.0.0, b.0.1) ≡ (x, rest) = ap (λ (t : List ℕ). (t, b.0.1)) text.1 ∙ ok_is {E = TableRefusal} (c.0, b.0.1) (x, rest) c.2 in
+    subst (λ (q : List ℕ × List ℕ). Takes (SpellsAtom q.0) bytes q.1) same took
+
+atom_again : (n : ℕ) (x text rest : List ℕ) → SpellsAtom x text → atom_at n (text ++ rest) ≡ Ok (x, rest)
+unfolding atom_at
+atom_again n x text rest is =
+    let utf8 : is_utf8 x ≡ true = is_utf8-from_IsUtf8 x is.0 in
+    let bytes : bytes_at Cut (length x) (x ++ rest) ≡ Ok (x, rest) = (bytes_agree Cut (length x)).again x x rest (refl, refl) in
+    rw (is.2, bytes, utf8) refl
+
+pub atom_agrees : (n : ℕ) → Agrees (atom_at n) SpellsAtom
+atom_agrees n = record { takes = atom_takes n; again = atom_again n }
+
+pub atoms_agree : Agrees atoms_at SpellsAtoms
+atoms_agree = counted_agrees Cut atom_at SpellsAtom atom_agrees 1

@@ -1,0 +1,2 @@
+pub mod AtomSpelling
+pub mod EntrySpelling

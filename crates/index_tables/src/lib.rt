@@ -1,0 +1,13 @@
+//! The tables of names of a module: its atoms, imports, exports, local functions and funs, read from
+//! their chunks and written as text.
+#![tactic(auto)]
+
+mod atoms;
+mod entry;
+mod reading;
+mod refusal;
+mod table;
+
+pub use entry::{Export, Fun, Import};
+pub use refusal::TableRefusal;
+pub use table::{Atoms, Exports, Funs, Imports, Table};
