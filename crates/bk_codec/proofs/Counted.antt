@@ -1,6 +1,7 @@
 -- Reading a count and as many numbered values.
-use Rattle.std.proofs.Common.{◌≡◌, ◌⊎◌, ℕ, zero, suc, ◌+◌, ◌-◌, ◌<◌, ◌≤◌, List, [], ◌∷◌, ◌++◌, length, Result, Ok, Err, refl, sym, ap, subst, ◌∙◌, append_assoc, arith, inl, inr}
+use Rattle.std.proofs.Common.{◌≡◌, ◌⊎◌, ℕ, zero, suc, ◌+◌, ◌-◌, ◌^◌, ◌<◌, ◌≤◌, List, [], ◌∷◌, ◌++◌, length, All, Result, Ok, Err, refl, sym, ap, subst, ◌∙◌, append_assoc, arith, inl, inr}
 use Rattle.std.proofs.lemmas.List.{append-nil}
+use Rattle.std.proofs.lemmas.List.Elements.{All-nil, All-cons}
 use Rattle.bk_codec.specs.Reading.{◌>>=◌, giving, made_of, number_at, numbered_at, counted_at, Fails}
 use Rattle.bk_codec.specs.Spelling.{IsBytes, Then, SpellsMany, SpellsWord, SpellsCounted}
 use Rattle.bk_codec.proofs.Steps.{bind_ok, made_ok, ok_is}
@@ -83,3 +84,18 @@ count_done one front n i k rest whole le before =
     let count : n - i ≡ 0 = omega arith in
     let step : numbered_at one k (n - i) rest ≡ giving [] rest = rw count refl in
     sym before ∙ ap (with_front front) step ∙ ap (λ (xs : List _). giving xs rest) (append-nil front)
+
+-- ---- what the values of a spelling have in common
+
+pub many-all : {A : Type 0} (R : A → List ℕ → Type 0) (P : A → Type 0) → ((x : A) (text : List ℕ) → R x text → P x)
+    → (xs : List A) (bytes : List ℕ) → SpellsMany R xs bytes → All P xs
+many-all R P each [] bytes is = All-nil P
+many-all R P each (x ∷ xs) bytes is = All-cons P x xs (each x is.front is.front_is) (many-all R P each xs is.back is.back_is)
+
+-- the count has 32 bits
+pub counted-fits : {A : Type 0} (R : A → List ℕ → Type 0) (xs : List A) (bytes : List ℕ) → SpellsCounted R xs bytes → length xs < 2 ^ 32
+counted-fits R xs bytes is = is.front_is.fits
+
+pub counted-all : {A : Type 0} (R : A → List ℕ → Type 0) (P : A → Type 0) → ((x : A) (text : List ℕ) → R x text → P x)
+    → (xs : List A) (bytes : List ℕ) → SpellsCounted R xs bytes → All P xs
+counted-all R P each xs bytes is = many-all R P each xs is.back is.back_is
