@@ -6,16 +6,16 @@ use Rattle.bk_codec.specs.Reading.{◌>>=◌, giving, byte_at, bytes_at}
 use Rattle.bk_codec.specs.Spelling.{IsBytes, SpellsCounted}
 use Rattle.bk_codec.proofs.Steps.{bind_ok, ok_is}
 use Rattle.bk_codec.proofs.Agreement.{Agrees, Takes, Takes-then, Takes-weaker, byte_agrees, bytes_agree}
-use Rattle.bk_codec.proofs.Counted.{counted_agrees}
+use Rattle.bk_codec.proofs.Counted.{counted_agrees, counted-fits, counted-all}
 use Rattle.index_tables.specs.declared.refusal.TableRefusal.{TableRefusal}
 use Rattle.index_tables.specs.declared.refusal.TableRefusal.TheVariants.{Cut, AtomUtf8}
-use Rattle.index_tables.specs.Atoms.{SpellsAtom, SpellsAtoms}
+use Rattle.index_tables.specs.Atoms.{SpellsAtom, SpellsAtoms, FitsAtoms}
 use Rattle.index_tables.specs.Reading.{text_of, atom_at, atoms_at}
 
--- bytes that are the text of atom n
-text_ok : (b : Bool) (n : ℕ) (bytes x : List ℕ) → cond b (Ok bytes) (Err (AtomUtf8 n)) ≡ Ok x → (b ≡ true) × (bytes ≡ x)
-text_ok true n bytes x e = (refl, ok_is {E = TableRefusal} bytes x e)
-text_ok false n bytes x e = absurd cc
+-- bytes that are the text of atom n, with what is behind them
+text_ok : (b : Bool) (n : ℕ) (name after : List ℕ) (x : List ℕ × List ℕ) → (cond b (Ok name) (Err (AtomUtf8 n)) >>= λ text. giving text after) ≡ Ok x → (b ≡ true) × ((name, after) ≡ x)
+text_ok true n name after x e = (refl, ok_is {E = TableRefusal} (name, after) x e)
+text_ok false n name after x e = absurd cc
 
 -- the length, and the name behind it
 atom_spelled : (name : List ℕ) (len : ℕ) (bytes behind rest : List ℕ) → IsBytes bytes → IsUtf8 name
@@ -34,13 +34,11 @@ unfolding atom_at
 atom_takes n bytes x rest fits e =
     let a = bind_ok (byte_at Cut bytes) (λ len. bytes_at Cut len.0 len.1 >>= λ name. text_of n name.0 >>= λ text. giving text name.1) (x, rest) e in
     let b = bind_ok (bytes_at Cut a.0.0 a.0.1) (λ name. text_of n name.0 >>= λ text. giving text name.1) (x, rest) a.2 in
-    let c = bind_ok (text_of n b.0.0) (λ text. giving text b.0.1) (x, rest) b.2 in
-    let text = text_ok (is_utf8 b.0.0) n b.0.0 c.0 c.1 in
+    let text = text_ok (is_utf8 b.0.0) n b.0.0 b.0.1 (x, rest) b.2 in
     let first = (byte_agrees Cut).takes bytes a.0.0 a.0.1 fits a.1 in
     let second = (bytes_agree Cut a.0.0).takes a.0.1 b.0.0 b.0.1 first.fits b.1 in
     let took = atom_spelled b.0.0 a.0.0 bytes a.0.1 b.0.1 fits (IsUtf8-from_is_utf8 b.0.0 text.0) first second in
-    let same : (b.0.0, b.0.1) ≡ (x, rest) = ap (λ (t : List ℕ). (t, b.0.1)) text.1 ∙ ok_is {E = TableRefusal} (c.0, b.0.1) (x, rest) c.2 in
-    subst (λ (q : List ℕ × List ℕ). Takes (SpellsAtom q.0) bytes q.1) same took
+    subst (λ (q : List ℕ × List ℕ). Takes (SpellsAtom q.0) bytes q.1) text.1 took
 
 atom_again : (n : ℕ) (x text rest : List ℕ) → SpellsAtom x text → atom_at n (text ++ rest) ≡ Ok (x, rest)
 unfolding atom_at
@@ -54,3 +52,9 @@ atom_agrees n = record { takes = atom_takes n; again = atom_again n }
 
 pub atoms_agree : Agrees atoms_at SpellsAtoms
 atoms_agree = counted_agrees Cut atom_at SpellsAtom atom_agrees 1
+
+pub SpellsAtoms-fits : (names : List (List ℕ)) (bytes : List ℕ) → SpellsAtoms names bytes → FitsAtoms names
+SpellsAtoms-fits names bytes is = (
+  counted-fits SpellsAtom names bytes is,
+  counted-all SpellsAtom (λ name. length name < 256) (λ name text atom. atom.1) names bytes is,
+)

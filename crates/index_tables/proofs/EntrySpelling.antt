@@ -1,5 +1,5 @@
 -- Entries are read where they are spelled.
-use Rattle.std.proofs.Common.{◌≡◌, ℕ, zero, suc, ◌+◌, ◌<◌, ◌≤◌, Bool, true, false, leb, ◌&&◌, cond, List, [], ◌∷◌, ◌++◌, length, get_or, All, Result, Ok, Err, refl, sym, ap, subst, ◌∙◌, arith}
+use Rattle.std.proofs.Common.{◌≡◌, ℕ, zero, suc, ◌+◌, ◌^◌, ◌<◌, ◌≤◌, Bool, true, false, leb, ◌&&◌, cond, List, [], ◌∷◌, ◌++◌, length, get_or, All, Result, Ok, Err, refl, sym, ap, subst, ◌∙◌, arith}
 use Rattle.std.specs.List.{list_all}
 use Rattle.std.proofs.lemmas.Bool.{and_parts, leb-true, le-leb}
 use Rattle.std.proofs.lemmas.List.Elements.{All-nil, All-cons, All-head, All-tail}
@@ -7,46 +7,16 @@ use Rattle.bk_codec.specs.Reading.{◌>>=◌, giving, made_of, many_at}
 use Rattle.bk_codec.specs.Spelling.{IsBytes, SpellsMany, SpellsWord, SpellsCounted}
 use Rattle.bk_codec.proofs.Steps.{bind_ok, made_ok, ok_is}
 use Rattle.bk_codec.proofs.Agreement.{Agrees, Takes, Takes-weaker, number_agrees, many_agree}
-use Rattle.bk_codec.proofs.Counted.{counted_agrees}
+use Rattle.bk_codec.proofs.Counted.{counted_agrees, many-all, counted-fits, counted-all}
 use Rattle.index_tables.specs.declared.entry.Import.{Import}
 use Rattle.index_tables.specs.declared.entry.Export.{Export}
 use Rattle.index_tables.specs.declared.entry.Fun.{Fun}
 use Rattle.index_tables.specs.declared.refusal.TableRefusal.{TableRefusal}
 use Rattle.index_tables.specs.declared.refusal.TableRefusal.TheVariants.{Cut, AtomIndex}
 use Rattle.index_tables.specs.Atoms.{IsAtom}
-use Rattle.index_tables.specs.Entries.{NamesAtoms, SpellsEntry, SpellsTable}
-use Rattle.index_tables.specs.Reading.{word_at, record_at, Shape, import_shape, export_shape, fun_shape, is_atom, entry_at, entries_at}
-
--- ---- shapes
-
--- an entry is made of its words, and words are those of the entry that they make
-pub record IsShape {A : Type 0} (shape : Shape A) : Type 0 where
-  pub counted : (x : A) → length (shape.words x) ≡ shape.width
-  pub back : (x : A) → shape.of_words (shape.words x) ≡ x
-  pub made : (ws : List ℕ) → length ws ≡ shape.width → shape.words (shape.of_words ws) ≡ ws
-
-three : (ws : List ℕ) → length ws ≡ 3 → get_or ws 0 0 ∷ get_or ws 1 0 ∷ get_or ws 2 0 ∷ [] ≡ ws
-three (a ∷ b ∷ c ∷ []) e = refl
-three (a ∷ b ∷ c ∷ d ∷ ws) e = absurd (omega arith)
-three (a ∷ b ∷ []) e = absurd (omega arith)
-three (a ∷ []) e = absurd (omega arith)
-three [] e = absurd (omega arith)
-
-six : (ws : List ℕ) → length ws ≡ 6 → get_or ws 0 0 ∷ get_or ws 1 0 ∷ get_or ws 2 0 ∷ get_or ws 3 0 ∷ get_or ws 4 0 ∷ get_or ws 5 0 ∷ [] ≡ ws
-six (a ∷ b ∷ c ∷ ws) e =
-    ap (λ (others : List ℕ). a ∷ b ∷ c ∷ others) (three ws (omega arith))
-six (a ∷ b ∷ []) e = absurd (omega arith)
-six (a ∷ []) e = absurd (omega arith)
-six [] e = absurd (omega arith)
-
-pub import_is_shape : IsShape import_shape
-import_is_shape = record { counted = λ x. refl; back = λ x. refl; made = three }
-
-pub export_is_shape : IsShape export_shape
-export_is_shape = record { counted = λ x. refl; back = λ x. refl; made = three }
-
-pub fun_is_shape : IsShape fun_shape
-fun_is_shape = record { counted = λ x. refl; back = λ x. refl; made = six }
+use Rattle.index_tables.specs.Entries.{NamesAtoms, FitsWords, SpellsEntry, SpellsTable}
+use Rattle.index_tables.specs.Reading.{word_at, record_at, is_atom, entry_at, entries_at}
+use Rattle.index_tables.specs.Shape.{Shape, IsShape}
 
 -- ---- atom numbers
 
@@ -111,3 +81,14 @@ module _ {A : Type 0} (shape : Shape A) (is_shape : IsShape shape) where
 
   pub entries_agree : (names : List (List ℕ)) → Agrees (entries_at shape names) (SpellsTable shape.words shape.atoms names)
   entries_agree names = counted_agrees Cut (entry_at shape names) (SpellsEntry shape.words shape.atoms names) (entry_agrees names) 0
+
+  pub SpellsTable-names : (names : List (List ℕ)) (xs : List A) (bytes : List ℕ) → SpellsTable shape.words shape.atoms names xs bytes → NamesAtoms shape.atoms names xs
+  SpellsTable-names names xs bytes is =
+      counted-all (SpellsEntry shape.words shape.atoms names) (λ x. All (IsAtom names) (shape.atoms x)) (λ x text entry. entry.1) xs bytes is
+
+  pub SpellsTable-fits : (names : List (List ℕ)) (xs : List A) (bytes : List ℕ) → SpellsTable shape.words shape.atoms names xs bytes → FitsWords shape.words xs
+  SpellsTable-fits names xs bytes is = (
+    counted-fits (SpellsEntry shape.words shape.atoms names) xs bytes is,
+    counted-all (SpellsEntry shape.words shape.atoms names) (λ x. All (λ n. n < 2 ^ 32) (shape.words x))
+        (λ x text entry. many-all SpellsWord (λ n. n < 2 ^ 32) (λ n word spelled. spelled.fits) (shape.words x) text entry.0) xs bytes is,
+  )

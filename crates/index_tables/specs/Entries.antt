@@ -1,5 +1,5 @@
 -- The tables of words: which words an entry has, and which of them are atom numbers.
-use Rattle.std.specs.Prelude.{ℕ, List, [], ◌∷◌, All}
+use Rattle.std.specs.Prelude.{ℕ, ◌<◌, ◌^◌, List, [], ◌∷◌, length, All}
 use Rattle.bk_codec.specs.Spelling.{SpellsMany, SpellsWord, SpellsCounted}
 use Rattle.index_tables.specs.Atoms.{IsAtom}
 use Rattle.index_tables.specs.declared.entry.Import.{Import}
@@ -27,6 +27,10 @@ fun_atoms x = x.name ∷ []
 -- the atom numbers of each entry are numbers of these atoms
 abbrev pub NamesAtoms : {A : Type 0} → (A → List ℕ) → List (List ℕ) → List A → Type 0
 NamesAtoms atoms names xs = All (λ x. All (IsAtom names) (atoms x)) xs
+
+-- the count of the entries and each word of them are numbers of 32 bits
+abbrev pub FitsWords : {A : Type 0} → (A → List ℕ) → List A → Type 0
+FitsWords words xs = (length xs < 2 ^ 32) × All (λ x. All (λ n. n < 2 ^ 32) (words x)) xs
 
 -- an entry is its words, and its atom numbers are numbers of these atoms
 abbrev pub SpellsEntry : {A : Type 0} → (A → List ℕ) → (A → List ℕ) → List (List ℕ) → A → List ℕ → Type 0

@@ -1,3 +1,4 @@
 pub mod Atoms
 pub mod Entries
+pub mod Shape
 pub mod Reading

@@ -1,12 +1,9 @@
 -- How the tables are read: what stands in a payload, or the first refusal from the left.
-use Rattle.std.specs.Prelude.{ℕ, nat_lt, nat_le, Bool, ◌&&◌, if◌then◌else◌, List, length, slice_index, Result, Ok, Err}
+use Rattle.std.specs.Prelude.{ℕ, nat_le, Bool, ◌&&◌, if◌then◌else◌, List, length, Result, Ok, Err}
 use Rattle.std.specs.List.{list_all}
 use Rattle.std.specs.Str.{is_utf8}
 use Rattle.bk_codec.specs.Reading.{◌>>=◌, giving, made_of, byte_at, bytes_at, number_at, many_at, counted_at, ended}
-use Rattle.index_tables.specs.Entries.{import_words, import_atoms, export_words, export_atoms, fun_words, fun_atoms}
-use Rattle.index_tables.specs.declared.entry.Import.{Import}
-use Rattle.index_tables.specs.declared.entry.Export.{Export}
-use Rattle.index_tables.specs.declared.entry.Fun.{Fun}
+use Rattle.index_tables.specs.Shape.{Shape}
 use Rattle.index_tables.specs.declared.refusal.TableRefusal.{TableRefusal}
 use Rattle.index_tables.specs.declared.refusal.TableRefusal.TheVariants.{Cut, AtomUtf8, AtomIndex, Rest}
 
@@ -36,37 +33,6 @@ word_at = number_at Cut 4
 -- a record of n words
 abbrev pub record_at : {A : Type 0} → (List ℕ → A) → ℕ → List ℕ → Result (A × List ℕ) TableRefusal
 record_at of_words n bytes = made_of of_words (many_at word_at n bytes)
-
--- the entries of a table: their words and how many these are, the entry that words make, and which words are atom numbers
-pub record Shape (A : Type 0) : Type 0 where
-  pub width : ℕ
-  pub words : A → List ℕ
-  pub of_words : List ℕ → A
-  pub atoms : A → List ℕ
-
-abbrev pub import_shape : Shape Import
-import_shape = record {
-  width = 3;
-  words = import_words;
-  of_words = λ ws. record { «module» = slice_index ws 0; name = slice_index ws 1; arity = slice_index ws 2 };
-  atoms = import_atoms;
-}
-
-abbrev pub export_shape : Shape Export
-export_shape = record {
-  width = 3;
-  words = export_words;
-  of_words = λ ws. record { name = slice_index ws 0; arity = slice_index ws 1; label = slice_index ws 2 };
-  atoms = export_atoms;
-}
-
-abbrev pub fun_shape : Shape Fun
-fun_shape = record {
-  width = 6;
-  words = fun_words;
-  of_words = λ ws. record { name = slice_index ws 0; arity = slice_index ws 1; label = slice_index ws 2; index = slice_index ws 3; free = slice_index ws 4; unique = slice_index ws 5 };
-  atoms = fun_atoms;
-}
 
 -- whether a number is that of one of the atoms
 abbrev pub is_atom : List (List ℕ) → ℕ → Bool

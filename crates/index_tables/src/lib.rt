@@ -9,5 +9,6 @@ mod refusal;
 mod table;
 
 pub use entry::{Export, Fun, Import};
+pub use reading::{read_atoms, read_exports, read_funs, read_imports, read_locals};
 pub use refusal::TableRefusal;
 pub use table::{Atoms, Exports, Funs, Imports, Table};

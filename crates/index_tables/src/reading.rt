@@ -1,23 +1,192 @@
 //! Reading the tables.
 
-ghost use Rattle.std.specs.Prelude.{◌≡◌};
+ghost use Rattle.std.specs.Prelude.{◌≡◌, ◌⊎◌, ℕ, List, IfOk};
+ghost use Rattle.std.specs.List.{list_all};
 ghost use Rattle.bk_codec.specs.Reading.{Gives, GivesAll, alone, numbered_at};
-ghost use Rattle.index_tables.specs.Reading.{word_at, text_of, atom_at, all_atoms, entry_at, all_entries};
+ghost use Rattle.index_tables.specs.Reading.{word_at, record_at, is_atom, text_of, atom_at, all_atoms, entry_at, all_entries};
+ghost use Rattle.index_tables.specs.Atoms.{SpellsAtoms, FitsAtoms};
+ghost use Rattle.index_tables.specs.Entries.{SpellsTable, SpellsImports, SpellsExports, SpellsFuns, NamesAtoms, FitsWords, import_words, import_atoms, export_words, export_atoms, fun_words, fun_atoms};
+ghost use Rattle.index_tables.specs.Shape.{import_shape, export_shape, fun_shape};
 ghost use Rattle.index_tables.specs.declared.refusal.TableRefusal.TheVariants as refusals;
 
-use crate::entry::Entry;
+use crate::entry::{Export, Fun, Import};
 use crate::refusal::TableRefusal;
-use crate::table::{Atoms, Table};
+use crate::table::{Atoms, Exports, Funs, Imports, Table};
 use bk_base::{Cursor, Text, TextFault};
 use std::alloc::Global;
 
-pub(crate) fn word(cur: &mut Cursor<'_>) -> Result<u32, TableRefusal>
+/// Reads the payload of a table of atoms, whole.
+///
+/// It is refused at the first bad record: `Cut` where bytes of the count or of an atom are missing,
+/// `AtomUtf8` where a name that is there is not UTF-8. `Rest` comes only behind the last atom.
+pub fn read_atoms(alloc: Global, s: &[u8]) -> Result<Atoms, TableRefusal>
+    // What is read is spelled there.
+    ensures found { IfOk result (λ names. SpellsAtoms names s.now) }
+    ensures fits { IfOk result FitsAtoms }
+
+    // What is spelled there is read, unless memory is wanting.
+    ensures only { (names : List (List ℕ)) → SpellsAtoms names s.now → (result ≡ Ok names) ⊎ (result ≡ Err refusals.NoMemory) }
+
+    // Which refusal it is.
+    ensures exact { GivesAll refusals.NoMemory (λ names. names) result (all_atoms s.now) }
+{
+    all_atoms(alloc, s)
+}
+
+/// Reads the payload of a table of imports over these atoms, whole.
+///
+/// It is refused at the first bad entry: `Cut` where words of the count or of an entry are missing,
+/// `AtomIndex` where all words of an entry are there and an atom number of it is none of the atoms.
+/// `Rest` comes only behind the last entry.
+pub fn read_imports(alloc: Global, s: &[u8], atoms: &Atoms) -> Result<Imports, TableRefusal>
+    ensures found { IfOk result (λ xs. SpellsImports atoms.now xs s.now) }
+    ensures named { IfOk result (NamesAtoms import_atoms atoms.now) }
+    ensures fits { IfOk result (FitsWords import_words) }
+    ensures only { (xs : List Import) → SpellsImports atoms.now xs s.now → (result ≡ Ok xs) ⊎ (result ≡ Err refusals.NoMemory) }
+    ensures exact { GivesAll refusals.NoMemory (λ xs. xs) result (all_entries import_shape atoms.now s.now) }
+{
+    read_table(alloc, s, atoms)
+}
+
+/// Reads the payload of a table of exports over these atoms, whole. It is refused as [`read_imports`]
+/// says.
+pub fn read_exports(alloc: Global, s: &[u8], atoms: &Atoms) -> Result<Exports, TableRefusal>
+    ensures found { IfOk result (λ xs. SpellsExports atoms.now xs s.now) }
+    ensures named { IfOk result (NamesAtoms export_atoms atoms.now) }
+    ensures fits { IfOk result (FitsWords export_words) }
+    ensures only { (xs : List Export) → SpellsExports atoms.now xs s.now → (result ≡ Ok xs) ⊎ (result ≡ Err refusals.NoMemory) }
+    ensures exact { GivesAll refusals.NoMemory (λ xs. xs) result (all_entries export_shape atoms.now s.now) }
+{
+    read_table(alloc, s, atoms)
+}
+
+/// Reads the payload of a table of local functions over these atoms, which is spelled as one of
+/// exports is. It is refused as [`read_imports`] says.
+pub fn read_locals(alloc: Global, s: &[u8], atoms: &Atoms) -> Result<Exports, TableRefusal>
+    ensures found { IfOk result (λ xs. SpellsExports atoms.now xs s.now) }
+    ensures named { IfOk result (NamesAtoms export_atoms atoms.now) }
+    ensures fits { IfOk result (FitsWords export_words) }
+    ensures only { (xs : List Export) → SpellsExports atoms.now xs s.now → (result ≡ Ok xs) ⊎ (result ≡ Err refusals.NoMemory) }
+    ensures exact { GivesAll refusals.NoMemory (λ xs. xs) result (all_entries export_shape atoms.now s.now) }
+{
+    read_table(alloc, s, atoms)
+}
+
+/// Reads the payload of a table of funs over these atoms, whole. It is refused as [`read_imports`]
+/// says.
+pub fn read_funs(alloc: Global, s: &[u8], atoms: &Atoms) -> Result<Funs, TableRefusal>
+    ensures found { IfOk result (λ xs. SpellsFuns atoms.now xs s.now) }
+    ensures named { IfOk result (NamesAtoms fun_atoms atoms.now) }
+    ensures fits { IfOk result (FitsWords fun_words) }
+    ensures only { (xs : List Fun) → SpellsFuns atoms.now xs s.now → (result ≡ Ok xs) ⊎ (result ≡ Err refusals.NoMemory) }
+    ensures exact { GivesAll refusals.NoMemory (λ xs. xs) result (all_entries fun_shape atoms.now s.now) }
+{
+    read_table(alloc, s, atoms)
+}
+
+fn read_table<T: Entry>(alloc: Global, s: &[u8], atoms: &Atoms) -> Result<Table<T>, TableRefusal>
+    ensures found { IfOk result (λ xs. SpellsTable T.shape.words T.shape.atoms atoms.now xs s.now) }
+    ensures named { IfOk result (NamesAtoms T.shape.atoms atoms.now) }
+    ensures fits { IfOk result (FitsWords T.shape.words) }
+    ensures only { (xs : List T) → SpellsTable T.shape.words T.shape.atoms atoms.now xs s.now → (result ≡ Ok xs) ⊎ (result ≡ Err refusals.NoMemory) }
+    ensures exact { GivesAll refusals.NoMemory (λ xs. xs) result (all_entries T.shape atoms.now s.now) }
+{
+    all_entries(alloc, s, atoms)
+}
+
+/// An entry of a table: a record of words, some of which are atom numbers.
+pub(crate) trait Entry: Sized + Drop {
+    ghost use Rattle.index_tables.specs.Shape.{Shape, IsShape};
+
+    ghost shape: { Shape Self };
+
+    fn read(cur: &mut Cursor<'_>) -> Result<Self, TableRefusal>
+        ensures { Gives refusals.NoMemory (λ x. x) cur.new.rest result (record_at shape.of_words shape.width cur.old.rest) };
+
+    fn names_atoms(&self, atoms: &Atoms) -> bool
+        ensures { result ≡ list_all (is_atom atoms.now) (shape.atoms self.now) };
+
+    ghost is_shape: { IsShape shape };
+}
+
+impl Entry for Import {
+    ghost use Rattle.index_tables.specs.Shape.{import_shape, import_is_shape};
+
+    ghost shape = { import_shape };
+
+    ghost is_shape = { import_is_shape };
+
+    fn read(cur: &mut Cursor<'_>) -> Result<Import, TableRefusal> {
+        let module = word(cur)?;
+        let name = word(cur)?;
+        let arity = word(cur)?;
+        Ok(Import {
+            module,
+            name,
+            arity,
+        })
+    }
+
+    fn names_atoms(&self, atoms: &Atoms) -> bool {
+        atoms.name(self.module).is_some() && atoms.name(self.name).is_some()
+    }
+}
+
+impl Entry for Export {
+    ghost use Rattle.index_tables.specs.Shape.{export_shape, export_is_shape};
+
+    ghost shape = { export_shape };
+
+    ghost is_shape = { export_is_shape };
+
+    fn read(cur: &mut Cursor<'_>) -> Result<Export, TableRefusal> {
+        let name = word(cur)?;
+        let arity = word(cur)?;
+        let label = word(cur)?;
+        Ok(Export { name, arity, label })
+    }
+
+    fn names_atoms(&self, atoms: &Atoms) -> bool {
+        atoms.name(self.name).is_some()
+    }
+}
+
+impl Entry for Fun {
+    ghost use Rattle.index_tables.specs.Shape.{fun_shape, fun_is_shape};
+
+    ghost shape = { fun_shape };
+
+    ghost is_shape = { fun_is_shape };
+
+    fn read(cur: &mut Cursor<'_>) -> Result<Fun, TableRefusal> {
+        let name = word(cur)?;
+        let arity = word(cur)?;
+        let label = word(cur)?;
+        let index = word(cur)?;
+        let free = word(cur)?;
+        let unique = word(cur)?;
+        Ok(Fun {
+            name,
+            arity,
+            label,
+            index,
+            free,
+            unique,
+        })
+    }
+
+    fn names_atoms(&self, atoms: &Atoms) -> bool {
+        atoms.name(self.name).is_some()
+    }
+}
+
+fn word(cur: &mut Cursor<'_>) -> Result<u32, TableRefusal>
     ensures { Gives refusals.NoMemory (λ n. n) cur.new.rest result (word_at cur.old.rest) }
 {
     cur.be32().ok_or(TableRefusal::Cut)
 }
 
-fn text(alloc: Global, bytes: &[u8], n: u32) -> Result<Text, TableRefusal>
+fn atom_text(alloc: Global, bytes: &[u8], n: u32) -> Result<Text, TableRefusal>
     ensures { GivesAll refusals.NoMemory (λ t. t) result (text_of n bytes.now) }
 {
     match Text::from_bytes(alloc, bytes) {
@@ -28,12 +197,12 @@ fn text(alloc: Global, bytes: &[u8], n: u32) -> Result<Text, TableRefusal>
 }
 
 #[tactic(auto, unfolding(crate::specs::Reading::atom_at))]
-fn atom(alloc: Global, cur: &mut Cursor<'_>, n: u32) -> Result<Text, TableRefusal>
+fn next_atom(alloc: Global, cur: &mut Cursor<'_>, n: u32) -> Result<Text, TableRefusal>
     ensures { Gives refusals.NoMemory (λ t. t) cur.new.rest result (atom_at n cur.old.rest) }
 {
     let len = cur.byte().ok_or(TableRefusal::Cut)?;
     let name = cur.take(usize::from(len)).ok_or(TableRefusal::Cut)?;
-    text(alloc, name, n)
+    atom_text(alloc, name, n)
 }
 
 fn atoms(alloc: Global, cur: &mut Cursor<'_>, count: u32) -> Result<Atoms, TableRefusal>
@@ -41,13 +210,13 @@ fn atoms(alloc: Global, cur: &mut Cursor<'_>, count: u32) -> Result<Atoms, Table
 {
     let mut names = Table::new(alloc);
     for i in 0..count {
-        let name = atom(alloc, cur, i + 1)?;
+        let name = next_atom(alloc, cur, i + 1)?;
         names.push(name)?;
     }
     Ok(names)
 }
 
-fn entry<T: Entry>(cur: &mut Cursor<'_>, atoms: &Atoms, i: u32) -> Result<T, TableRefusal>
+fn next_entry<T: Entry>(cur: &mut Cursor<'_>, atoms: &Atoms, i: u32) -> Result<T, TableRefusal>
     ensures { Gives refusals.NoMemory (λ x. x) cur.new.rest result (entry_at T.shape atoms.now i cur.old.rest) }
 {
     let entry = T::read(cur)?;
@@ -67,7 +236,7 @@ fn entries<T: Entry>(
 {
     let mut entries = Table::new(alloc);
     for i in 0..count {
-        let entry = entry(cur, atoms, i)?;
+        let entry = next_entry(cur, atoms, i)?;
         entries.push(entry)?;
     }
     Ok(entries)

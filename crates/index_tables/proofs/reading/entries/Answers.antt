@@ -14,5 +14,5 @@ returns-in_err-entry g c =
 
 pub loop-i-preserved : goal.loop-i-preserved
 loop-i-preserved g c =
-    rw c.in_ok-push.ensures.ok (counts_on (entry_at g.T.Entry.shape c.args.atoms.now) c.loop-i.entries c.args.count c.loop-i.i c.loop-i.i (c.loop-i.i + 1) c.loop-i.cur.rest c.entry.new.cur.rest c.in_ok-entry.entry
+    rw c.in_ok-push.ensures.ok (counts_on (entry_at g.T.Entry.shape c.args.atoms.now) c.loop-i.entries c.args.count c.loop-i.i c.loop-i.i (c.loop-i.i + 1) c.loop-i.cur.rest c.next_entry.new.cur.rest c.in_ok-entry.entry
     (numbered_at (entry_at g.T.Entry.shape c.args.atoms.now) 0 c.args.count c.args.cur.now.rest) c.loop-i-test.true (omega arith) c.in_ok-entry.ensures c.loop-i.invariant)
