@@ -2,3 +2,4 @@ pub mod Atoms
 pub mod Entries
 pub mod Shape
 pub mod Reading
+pub mod Text

@@ -7,8 +7,13 @@ mod entry;
 mod reading;
 mod refusal;
 mod table;
+mod text;
 
 pub use entry::{Export, Fun, Import};
 pub use reading::{read_atoms, read_exports, read_funs, read_imports, read_locals};
 pub use refusal::TableRefusal;
 pub use table::{Atoms, Exports, Funs, Imports, Table};
+pub use text::{atoms_text, exports_text, funs_text, imports_text};
+
+#[cfg(test)]
+mod tests;
