@@ -4,4 +4,5 @@ pub mod Agreement
 pub mod Loop
 pub mod Counted
 pub mod Ended
+pub mod Refused
 pub mod ToTheEnd
