@@ -1,16 +1,19 @@
 -- Atoms are read where they are spelled.
-use Rattle.std.proofs.Common.{◌≡◌, ℕ, ◌+◌, ◌<◌, Bool, true, false, cond, List, [], ◌∷◌, ◌++◌, length, get_or, Result, Ok, Err, refl, sym, ap, subst, ◌∙◌, arith}
+use Rattle.std.proofs.Common.{◌≡◌, ◌⊎◌, ℕ, ◌+◌, ◌<◌, ◌≤◌, Bool, true, false, cond, ltb, List, [], ◌∷◌, ◌++◌, length, get_or, take, drop, Result, Ok, Err, refl, sym, ap, subst, ◌∙◌, arith, inl, inr}
+use Rattle.std.proofs.lemmas.Bool.{ltb-true, ltb-false, lt-ltb, le-ltb, false≢true, false_from_ne_true}
 use Rattle.std.specs.Str.{IsUtf8, is_utf8}
 use Rattle.std.proofs.lemmas.Str.{IsUtf8-from_is_utf8, is_utf8-from_IsUtf8}
 use Rattle.bk_codec.specs.Reading.{◌>>=◌, giving, byte_at, bytes_at}
 use Rattle.bk_codec.specs.Spelling.{IsBytes, SpellsCounted}
-use Rattle.bk_codec.proofs.Steps.{bind_ok, ok_is}
+use Rattle.bk_codec.proofs.Steps.{bind_ok, bind_err, guard_ok, guard_err, ok_is, err_is}
 use Rattle.bk_codec.proofs.Agreement.{Agrees, Takes, Takes-then, Takes-weaker, byte_agrees, bytes_agree}
 use Rattle.bk_codec.proofs.Counted.{counted_agrees, counted-fits, counted-all}
+use Rattle.bk_codec.proofs.Refused.{RefusesByNumber}
 use Rattle.index_tables.specs.declared.refusal.TableRefusal.{TableRefusal}
-use Rattle.index_tables.specs.declared.refusal.TableRefusal.TheVariants.{Cut, AtomUtf8}
+use Rattle.index_tables.specs.declared.refusal.TableRefusal.TheVariants.{Cut, AtomUtf8, AtomIndex, Rest, NoMemory}
 use Rattle.index_tables.specs.Atoms.{SpellsAtom, SpellsAtoms, FitsAtoms}
 use Rattle.index_tables.specs.Reading.{text_of, atom_at, atoms_at}
+use Rattle.index_tables.specs.Refusal.{NoAtom}
 
 -- bytes that are the text of atom n, with what is behind them
 text_ok : (b : Bool) (n : ℕ) (name after : List ℕ) (x : List ℕ × List ℕ) → (cond b (Ok name) (Err (AtomUtf8 n)) >>= λ text. giving text after) ≡ Ok x → (b ≡ true) × ((name, after) ≡ x)
@@ -58,3 +61,38 @@ SpellsAtoms-fits names bytes is = (
   counted-fits SpellsAtom names bytes is,
   counted-all SpellsAtom (λ name. length name < 256) (λ name text atom. atom.1) names bytes is,
 )
+
+-- ---- refusals
+
+text_err : (b : Bool) (n : ℕ) (name after : List ℕ) (e : TableRefusal) → (cond b (Ok name) (Err (AtomUtf8 n)) >>= λ text. giving text after) ≡ Err e → (b ≡ false) × (AtomUtf8 n ≡ e)
+text_err true n name after e h = absurd cc
+text_err false n name after e h = (refl, err_is {A = List ℕ × List ℕ} (AtomUtf8 n) e h)
+
+atom_why : (n : ℕ) (bytes : List ℕ) (e : TableRefusal) → IsBytes bytes → atom_at n bytes ≡ Err e → NoAtom n bytes e
+unfolding atom_at
+atom_why n [] e fits h = subst (λ (d : TableRefusal). NoAtom n [] d) (err_is {A = List ℕ × List ℕ} Cut e h) tt
+atom_why n (len ∷ bytes) e fits h =
+    elim (bind_err (bytes_at Cut len bytes) (λ name. text_of n name.0 >>= λ text. giving text name.1) e h) [
+      | inl short ↦ (
+          let g = guard_err (ltb (length bytes) len) Cut (take len bytes, drop len bytes) e short in
+          subst (λ (d : TableRefusal). NoAtom n (len ∷ bytes) d) g.1 (ltb-true (length bytes) len g.0))
+      | inr later ↦ (
+          let g = guard_ok (ltb (length bytes) len) Cut (giving (take len bytes) (drop len bytes)) later.0 later.1 in
+          let name : take len bytes ≡ later.0.0 = ap (λ (q : List ℕ × List ℕ). q.0) (ok_is {E = TableRefusal} (take len bytes, drop len bytes) later.0 g.1) in
+          let text = text_err (is_utf8 later.0.0) n later.0.0 later.0.1 e later.2 in
+          let not_utf8 : IsUtf8 (take len bytes) → ⊥ = λ utf8. false≢true (sym text.0 ∙ ap is_utf8 (sym name) ∙ is_utf8-from_IsUtf8 (take len bytes) utf8) in
+          subst (λ (d : TableRefusal). NoAtom n (len ∷ bytes) d) text.1 (refl, ltb-false (length bytes) len g.0, not_utf8))
+    ]
+
+atom_refuses : (n : ℕ) (bytes : List ℕ) (e : TableRefusal) → NoAtom n bytes e → atom_at n bytes ≡ Err e
+unfolding atom_at
+atom_refuses n [] Cut is = refl
+atom_refuses n (len ∷ bytes) Cut is = rw (lt-ltb (length bytes) len is) refl
+atom_refuses n (len ∷ bytes) (AtomUtf8 k) is =
+    let utf8 : is_utf8 (take len bytes) ≡ false = false_from_ne_true (is_utf8 (take len bytes)) (λ e. is.2 (IsUtf8-from_is_utf8 (take len bytes) e)) in
+    rw (le-ltb (length bytes) len is.1, utf8, is.0) refl
+atom_refuses n [] e is = absurd is
+atom_refuses n (len ∷ bytes) e is = absurd is
+
+pub atom_refused : RefusesByNumber atom_at NoAtom
+atom_refused = record { why = atom_why; refuses = atom_refuses }

@@ -1,22 +1,24 @@
 -- Entries are read where they are spelled.
-use Rattle.std.proofs.Common.{◌≡◌, ℕ, zero, suc, ◌+◌, ◌^◌, ◌<◌, ◌≤◌, Bool, true, false, leb, ◌&&◌, cond, List, [], ◌∷◌, ◌++◌, length, get_or, All, Result, Ok, Err, refl, sym, ap, subst, ◌∙◌, arith}
+use Rattle.std.proofs.Common.{◌≡◌, ℕ, zero, suc, ◌+◌, ◌^◌, ◌<◌, ◌≤◌, Bool, true, false, leb, ◌&&◌, cond, List, [], ◌∷◌, ◌++◌, length, get_or, All, Result, Ok, Err, refl, sym, ap, subst, ◌∙◌, arith, inl, inr}
 use Rattle.std.specs.List.{list_all}
-use Rattle.std.proofs.lemmas.Bool.{and_parts, leb-true, le-leb}
+use Rattle.std.proofs.lemmas.Bool.{and_parts, leb-true, le-leb, false≢true, false_from_ne_true}
 use Rattle.std.proofs.lemmas.List.Elements.{All-nil, All-cons, All-head, All-tail}
 use Rattle.bk_codec.specs.Reading.{◌>>=◌, giving, made_of, many_at}
 use Rattle.bk_codec.specs.Spelling.{IsBytes, SpellsMany, SpellsWord, SpellsCounted}
-use Rattle.bk_codec.proofs.Steps.{bind_ok, made_ok, ok_is}
+use Rattle.bk_codec.proofs.Steps.{bind_ok, bind_err, made_ok, made_err, ok_is, err_is}
 use Rattle.bk_codec.proofs.Agreement.{Agrees, Takes, Takes-weaker, number_agrees, many_agree}
 use Rattle.bk_codec.proofs.Counted.{counted_agrees, many-all, counted-fits, counted-all}
 use Rattle.index_tables.specs.declared.entry.Import.{Import}
 use Rattle.index_tables.specs.declared.entry.Export.{Export}
 use Rattle.index_tables.specs.declared.entry.Fun.{Fun}
 use Rattle.index_tables.specs.declared.refusal.TableRefusal.{TableRefusal}
-use Rattle.index_tables.specs.declared.refusal.TableRefusal.TheVariants.{Cut, AtomIndex}
+use Rattle.index_tables.specs.declared.refusal.TableRefusal.TheVariants.{Cut, AtomUtf8, AtomIndex, Rest, NoMemory}
 use Rattle.index_tables.specs.Atoms.{IsAtom}
 use Rattle.index_tables.specs.Entries.{NamesAtoms, FitsWords, SpellsEntry, SpellsTable}
 use Rattle.index_tables.specs.Reading.{word_at, record_at, is_atom, entry_at, entries_at}
 use Rattle.index_tables.specs.Shape.{Shape, IsShape}
+use Rattle.index_tables.specs.Refusal.{NoEntry, HasUnknownAtom}
+use Rattle.bk_codec.proofs.Refused.{RefusesByNumber, words_err, words_cut}
 
 -- ---- atom numbers
 
@@ -46,6 +48,10 @@ known_again names (n ∷ ns) all =
 known_ok : {A : Type 0} (b : Bool) (i : ℕ) (x : A) (rest : List ℕ) (y : A × List ℕ) → cond b (giving x rest) (Err (AtomIndex i)) ≡ Ok y → (b ≡ true) × ((x, rest) ≡ y)
 known_ok true i x rest y e = (refl, ok_is {E = TableRefusal} (x, rest) y e)
 known_ok false i x rest y e = absurd cc
+
+unknown_err : {A : Type 0} (b : Bool) (i : ℕ) (x : A) (rest : List ℕ) (e : TableRefusal) → cond b (giving x rest) (Err (AtomIndex i)) ≡ Err e → (b ≡ false) × (AtomIndex i ≡ e)
+unknown_err true i x rest e h = absurd cc
+unknown_err {A} false i x rest e h = (refl, err_is {A = A × List ℕ} (AtomIndex i) e h)
 
 module _ {A : Type 0} (shape : Shape A) (is_shape : IsShape shape) where
   record_takes : (bytes : List ℕ) (x : A) (rest : List ℕ) → IsBytes bytes → record_at shape.of_words shape.width bytes ≡ Ok (x, rest) → Takes (SpellsMany SpellsWord (shape.words x)) bytes rest
@@ -92,3 +98,34 @@ module _ {A : Type 0} (shape : Shape A) (is_shape : IsShape shape) where
     counted-all (SpellsEntry shape.words shape.atoms names) (λ x. All (λ n. n < 2 ^ 32) (shape.words x))
         (λ x text entry. many-all SpellsWord (λ n. n < 2 ^ 32) (λ n word spelled. spelled.fits) (shape.words x) text entry.0) xs bytes is,
   )
+
+  -- ---- refusals
+
+  entry_why : (names : List (List ℕ)) (i : ℕ) (bytes : List ℕ) (e : TableRefusal) → IsBytes bytes → entry_at shape names i bytes ≡ Err e
+      → NoEntry shape.width shape.words shape.atoms names i bytes e
+  entry_why names i bytes e fits h =
+      elim (bind_err (record_at shape.of_words shape.width bytes) (λ y. cond (list_all (is_atom names) (shape.atoms y.0)) (giving y.0 y.1) (Err (AtomIndex i))) e h) [
+        | inl short ↦ (
+            let words = words_err Cut e shape.width bytes (made_err shape.of_words (many_at word_at shape.width bytes) e short) in
+            subst (λ (d : TableRefusal). NoEntry shape.width shape.words shape.atoms names i bytes d) (sym words.0) words.1)
+        | inr later ↦ (
+            let g = unknown_err (list_all (is_atom names) (shape.atoms later.0.0)) i later.0.0 later.0.1 e later.2 in
+            let took = record_takes bytes later.0.0 later.0.1 fits later.1 in
+            let unknown : All (IsAtom names) (shape.atoms later.0.0) → ⊥ = λ all. false≢true (sym g.0 ∙ known_again names (shape.atoms later.0.0) all) in
+            let has : HasUnknownAtom shape.words shape.atoms names bytes =
+            record { entry = later.0.0; text = took.text; rest = later.0.1; joined = took.joined; words_are = took.is; unknown = unknown } in
+            subst (λ (d : TableRefusal). NoEntry shape.width shape.words shape.atoms names i bytes d) g.1 (refl, has))
+      ]
+
+  entry_refuses : (names : List (List ℕ)) (i : ℕ) (bytes : List ℕ) (e : TableRefusal) → NoEntry shape.width shape.words shape.atoms names i bytes e → entry_at shape names i bytes ≡ Err e
+  entry_refuses names i bytes Cut is = rw (words_cut Cut shape.width bytes is) refl
+  entry_refuses names i bytes (AtomIndex k) is =
+      let read : record_at shape.of_words shape.width bytes ≡ Ok (is.1.entry, is.1.rest) =
+      ap (record_at shape.of_words shape.width) is.1.joined ∙ record_again is.1.entry is.1.text is.1.rest is.1.words_are in
+      let unknown : list_all (is_atom names) (shape.atoms is.1.entry) ≡ false =
+      false_from_ne_true (list_all (is_atom names) (shape.atoms is.1.entry)) (λ e. is.1.unknown (all_atoms_known names (shape.atoms is.1.entry) e)) in
+      rw (read, unknown, is.0) refl
+  entry_refuses names i bytes e is = absurd is
+
+  pub entry_refused : (names : List (List ℕ)) → RefusesByNumber (entry_at shape names) (NoEntry shape.width shape.words shape.atoms names)
+  entry_refused names = record { why = entry_why names; refuses = entry_refuses names }

@@ -3,3 +3,4 @@ pub mod Entries
 pub mod Shape
 pub mod Reading
 pub mod Text
+pub mod Refusal

@@ -1,11 +1,12 @@
 //! Reading the tables.
 
-ghost use Rattle.std.specs.Prelude.{◌≡◌, ◌⊎◌, ℕ, List, IfOk};
+ghost use Rattle.std.specs.Prelude.{◌≡◌, ◌⊎◌, ℕ, List, IfOk, IfErr};
 ghost use Rattle.std.specs.List.{list_all};
 ghost use Rattle.bk_codec.specs.Reading.{Gives, GivesAll, alone, numbered_at};
 ghost use Rattle.index_tables.specs.Reading.{word_at, record_at, is_atom, text_of, atom_at, all_atoms, entry_at, all_entries};
 ghost use Rattle.index_tables.specs.Atoms.{SpellsAtoms, FitsAtoms};
 ghost use Rattle.index_tables.specs.Entries.{SpellsTable, SpellsImports, SpellsExports, SpellsFuns, NamesAtoms, FitsWords, import_words, import_atoms, export_words, export_atoms, fun_words, fun_atoms};
+ghost use Rattle.index_tables.specs.Refusal.{RefusesAtoms, RefusesTable, RefusesImports, RefusesExports, RefusesFuns};
 ghost use Rattle.index_tables.specs.Shape.{import_shape, export_shape, fun_shape};
 ghost use Rattle.index_tables.specs.declared.refusal.TableRefusal.TheVariants as refusals;
 
@@ -27,7 +28,10 @@ pub fn read_atoms(alloc: Global, s: &[u8]) -> Result<Atoms, TableRefusal>
     // What is spelled there is read, unless memory is wanting.
     ensures only { (names : List (List ℕ)) → SpellsAtoms names s.now → (result ≡ Ok names) ⊎ (result ≡ Err refusals.NoMemory) }
 
-    // Which refusal it is.
+    // It is refused for what stands there.
+    ensures refused { IfErr result (λ e. (e ≡ refusals.NoMemory) ⊎ RefusesAtoms s.now e) }
+
+    // The same as a function of the payload.
     ensures exact { GivesAll refusals.NoMemory (λ names. names) result (all_atoms s.now) }
 {
     all_atoms(alloc, s)
@@ -43,6 +47,7 @@ pub fn read_imports(alloc: Global, s: &[u8], atoms: &Atoms) -> Result<Imports, T
     ensures named { IfOk result (NamesAtoms import_atoms atoms.now) }
     ensures fits { IfOk result (FitsWords import_words) }
     ensures only { (xs : List Import) → SpellsImports atoms.now xs s.now → (result ≡ Ok xs) ⊎ (result ≡ Err refusals.NoMemory) }
+    ensures refused { IfErr result (λ e. (e ≡ refusals.NoMemory) ⊎ RefusesImports atoms.now s.now e) }
     ensures exact { GivesAll refusals.NoMemory (λ xs. xs) result (all_entries import_shape atoms.now s.now) }
 {
     read_table(alloc, s, atoms)
@@ -55,6 +60,7 @@ pub fn read_exports(alloc: Global, s: &[u8], atoms: &Atoms) -> Result<Exports, T
     ensures named { IfOk result (NamesAtoms export_atoms atoms.now) }
     ensures fits { IfOk result (FitsWords export_words) }
     ensures only { (xs : List Export) → SpellsExports atoms.now xs s.now → (result ≡ Ok xs) ⊎ (result ≡ Err refusals.NoMemory) }
+    ensures refused { IfErr result (λ e. (e ≡ refusals.NoMemory) ⊎ RefusesExports atoms.now s.now e) }
     ensures exact { GivesAll refusals.NoMemory (λ xs. xs) result (all_entries export_shape atoms.now s.now) }
 {
     read_table(alloc, s, atoms)
@@ -67,6 +73,7 @@ pub fn read_locals(alloc: Global, s: &[u8], atoms: &Atoms) -> Result<Exports, Ta
     ensures named { IfOk result (NamesAtoms export_atoms atoms.now) }
     ensures fits { IfOk result (FitsWords export_words) }
     ensures only { (xs : List Export) → SpellsExports atoms.now xs s.now → (result ≡ Ok xs) ⊎ (result ≡ Err refusals.NoMemory) }
+    ensures refused { IfErr result (λ e. (e ≡ refusals.NoMemory) ⊎ RefusesExports atoms.now s.now e) }
     ensures exact { GivesAll refusals.NoMemory (λ xs. xs) result (all_entries export_shape atoms.now s.now) }
 {
     read_table(alloc, s, atoms)
@@ -79,6 +86,7 @@ pub fn read_funs(alloc: Global, s: &[u8], atoms: &Atoms) -> Result<Funs, TableRe
     ensures named { IfOk result (NamesAtoms fun_atoms atoms.now) }
     ensures fits { IfOk result (FitsWords fun_words) }
     ensures only { (xs : List Fun) → SpellsFuns atoms.now xs s.now → (result ≡ Ok xs) ⊎ (result ≡ Err refusals.NoMemory) }
+    ensures refused { IfErr result (λ e. (e ≡ refusals.NoMemory) ⊎ RefusesFuns atoms.now s.now e) }
     ensures exact { GivesAll refusals.NoMemory (λ xs. xs) result (all_entries fun_shape atoms.now s.now) }
 {
     read_table(alloc, s, atoms)
@@ -89,6 +97,7 @@ fn read_table<T: Entry>(alloc: Global, s: &[u8], atoms: &Atoms) -> Result<Table<
     ensures named { IfOk result (NamesAtoms T.shape.atoms atoms.now) }
     ensures fits { IfOk result (FitsWords T.shape.words) }
     ensures only { (xs : List T) → SpellsTable T.shape.words T.shape.atoms atoms.now xs s.now → (result ≡ Ok xs) ⊎ (result ≡ Err refusals.NoMemory) }
+    ensures refused { IfErr result (λ e. (e ≡ refusals.NoMemory) ⊎ RefusesTable T.shape.width T.shape.words T.shape.atoms atoms.now s.now e) }
     ensures exact { GivesAll refusals.NoMemory (λ xs. xs) result (all_entries T.shape atoms.now s.now) }
 {
     all_entries(alloc, s, atoms)
