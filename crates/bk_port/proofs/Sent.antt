@@ -1,8 +1,8 @@
-use Rattle.std.specs.Prelude.{◌≡◌, List, ℕ, ◌≤◌, [], ◌++◌, take, drop, length, Option}
-use Rattle.std.proofs.Common.{refl, ap, sym, ◌∙◌, append_assoc, take-append-drop}
+use Rattle.std.specs.Prelude.{◌≡◌, List, ℕ, ◌++◌, Option}
+use Rattle.std.proofs.Common.{ap, sym, ◌∙◌, append_assoc}
 use Rattle.bk_port.specs.Known.{after_known}
 use Rattle.bk_port.specs.Writing.{WritesPart}
-use Rattle.bk_port.proofs.KnownBytes.{after_known-append, after_known-nil}
+use Rattle.bk_port.proofs.KnownBytes.{after_known-append}
 
 -- a front part of the bytes was written, and the rest is still to be
 pub record Sent (old new : Option (List ℕ)) (bytes rest : List ℕ) : Type 0 where
