@@ -1,5 +1,5 @@
-use Rattle.std.specs.Prelude.{◌≡◌, List, ℕ, [], ◌++◌, Option, Some, None}
-use Rattle.std.proofs.Common.{refl, ap, sym, append_assoc, append-nil}
+use Rattle.std.specs.Prelude.{◌≡◌, List, ℕ, ◌++◌, Option, Some, None}
+use Rattle.std.proofs.Common.{refl, ap, sym, append_assoc}
 use Rattle.bk_port.specs.Known.{before_known, after_known}
 
 -- one part before another, both before what is known
