@@ -66,8 +66,3 @@ guard_err false d x e h = absurd cc
 pub bind_same : {E A B : Type 0} (r : Result A E) (f g : A → Result B E) → ((x : A) → r ≡ Ok x → f x ≡ g x) → (r >>= f) ≡ (r >>= g)
 bind_same (Ok x) f g same = same x refl
 bind_same (Err d) f g same = refl
-
--- a refusal of a test that has one value alone
-pub guard_err : {E A : Type 0} (b : Bool) (d : E) (x : A) (e : E) → cond b (Err d) (Ok x) ≡ Err e → (b ≡ true) × (e ≡ d)
-guard_err true d x e h = (refl, sym (err_is d e h))
-guard_err false d x e h = absurd cc
