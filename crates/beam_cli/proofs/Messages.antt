@@ -1,5 +1,5 @@
--- A stop's message is the message that its status asks for.
-use Rattle.std.proofs.Common.{◌≡◌, ℕ, List, Option, Some, None, sym, ap, subst}
+-- A stop has the status of the answer, and the message that its status asks for.
+use Rattle.std.proofs.Common.{◌≡◌, ℕ, List, [], ◌∷◌, Option, Some, None, ◌⊎◌, inl, inr, refl, sym, ap, subst, ◌∙◌}
 use Rattle.std.specs.Prelude.{Any, IfSome}
 use Rattle.beam_cli.specs.declared.stop.Stop.{Stop}
 use Rattle.beam_cli.specs.declared.stop.Stop.TheVariants.{Grammar, ReadFault, TooLarge, NoMemory}
@@ -7,7 +7,7 @@ use Rattle.beam_cli.specs.declared.status.Status.{Status}
 use Rattle.beam_cli.specs.declared.status.Status.TheVariants as statuses
 use Rattle.beam_cli.specs.Answer.{Answer, stopped}
 use Rattle.beam_cli.specs.Message.{read_fault_line}
-use Rattle.beam_cli.specs.Outcome.{IsMessage}
+use Rattle.beam_cli.specs.Outcome.{IsAnswered, IsMessage}
 use Rattle.beam_cli.specs.Stopping.{HasReason, message_of, status_of}
 
 -- the answer's message, where the answer is told
@@ -25,3 +25,24 @@ message_at (Grammar name e) answer Said Faulty names Nothing reason said = said_
 message_at (ReadFault name) answer Said Faulty names Nothing reason said = said_faulty Said Faulty name.now names reason said
 message_at (TooLarge name) answer Said Faulty names Nothing reason said = said_answer answer Said (message_of (TooLarge name)) statuses.TooLarge reason said
 message_at NoMemory answer Said Faulty names Nothing reason said = said
+
+-- the status is the answer's, where no named file failed
+answered_as : (answer : Option Answer) (message : List ℕ) (status : Status) (Failed : Type 0) → IfSome answer (λ a. a ≡ stopped message status) → IsAnswered status answer Failed
+answered_as None message status Failed reason = tt
+answered_as (Some a) message status Failed reason = λ none. inl (sym (ap (λ (b : Answer). b.status) reason))
+
+failed_there : (answer : Option Answer) (status : Status) (Failed : Type 0) → Failed → IsAnswered status answer Failed
+failed_there None status Failed failed = tt
+failed_there (Some a) status Failed failed = λ none. absurd (none failed)
+
+no_memory_there : (answer : Option Answer) (Failed : Type 0) → IsAnswered statuses.NoMemory answer Failed
+no_memory_there None Failed = tt
+no_memory_there (Some a) Failed = λ none. inr refl
+
+pub complete_at : (stop : Stop) (answer : Option Answer) (Faulty : List ℕ → Type 0) (names : List (List ℕ)) (Other : Type 0) → HasReason answer Faulty names stop
+    → IsAnswered (status_of stop) answer (Any Faulty names ⊎ Other)
+complete_at (Grammar name e) answer Faulty names Other reason = answered_as answer (message_of (Grammar name e)) statuses.Grammar (Any Faulty names ⊎ Other) reason
+complete_at (ReadFault name) answer Faulty names Other reason =
+    failed_there answer statuses.ReadFault (Any Faulty names ⊎ Other) (inl (reason.0, reason.1, reason.2, reason.3, reason.4.1))
+complete_at (TooLarge name) answer Faulty names Other reason = answered_as answer (message_of (TooLarge name)) statuses.TooLarge (Any Faulty names ⊎ Other) reason
+complete_at NoMemory answer Faulty names Other reason = no_memory_there answer (Any Faulty names ⊎ Other)

@@ -2,6 +2,8 @@ pub mod Code
 pub mod Words
 pub mod Asking
 pub mod Message
+pub mod Needs
+pub mod Showing
 pub mod Answer
 pub mod Outcome
 pub mod Stopping

@@ -1,7 +1,11 @@
 -- The messages: one line for each status from 2 on, which says the cause.
 use Rattle.std.specs.Prelude.{ℕ, List, ◌++◌, codes, decimal}
 use Rattle.iff_form.specs.declared.refusal.FormRefusal.{FormRefusal}
-use Rattle.iff_form.specs.declared.refusal.FormRefusal.TheVariants.{Gzip, NotBeam, Size, ChunkCut, Twice, NoMemory}
+use Rattle.iff_form.specs.declared.refusal.FormRefusal.TheVariants.{Gzip, NotBeam, Size, ChunkCut, Twice, NoMemory as FormMemory}
+use Rattle.index_tables.specs.declared.refusal.TableRefusal.{TableRefusal}
+use Rattle.index_tables.specs.declared.refusal.TableRefusal.TheVariants.{Cut, AtomUtf8, AtomIndex, Rest, NoMemory as TableMemory}
+use Rattle.beam_cli.specs.declared.refusal.Refusal.{Refusal}
+use Rattle.beam_cli.specs.declared.refusal.Refusal.TheVariants.{Form, Missing, Table, NoMemory}
 use Rattle.iff_form.specs.Text.{id_text}
 
 -- a message of this text
@@ -28,10 +32,25 @@ abbrev pub no_memory_line : List ℕ
 no_memory_line = line (codes "out of memory")
 
 -- why a file is no form; want of memory is no reason of that kind
-abbrev pub refusal_text : FormRefusal → List ℕ
-refusal_text Gzip = codes "gzip file"
-refusal_text NotBeam = codes "not a BEAM file"
-refusal_text (Size stated found) = codes "size " ++ (decimal stated ++ (codes ", found " ++ decimal found))
-refusal_text (ChunkCut at) = codes "chunk cut at " ++ decimal at
-refusal_text (Twice id at) = codes "chunk " ++ (id_text id ++ (codes " twice at " ++ decimal at))
+abbrev pub form_text : FormRefusal → List ℕ
+form_text Gzip = codes "gzip file"
+form_text NotBeam = codes "not a BEAM file"
+form_text (Size stated found) = codes "size " ++ (decimal stated ++ (codes ", found " ++ decimal found))
+form_text (ChunkCut at) = codes "chunk cut at " ++ decimal at
+form_text (Twice id at) = codes "chunk " ++ (id_text id ++ (codes " twice at " ++ decimal at))
+form_text FormMemory = codes "out of memory"
+
+-- why a payload is no table of names
+abbrev pub table_text : TableRefusal → List ℕ
+table_text Cut = codes "cut"
+table_text Rest = codes "rest"
+table_text (AtomUtf8 n) = codes "atom " ++ (decimal n ++ codes " is not UTF-8")
+table_text (AtomIndex entry) = codes "atom number in entry " ++ decimal entry
+table_text TableMemory = codes "out of memory"
+
+-- why a file is not what a command needs
+abbrev pub refusal_text : Refusal → List ℕ
+refusal_text (Form e) = form_text e
+refusal_text (Missing id) = codes "no chunk " ++ id_text id
+refusal_text (Table id e) = id_text id ++ (codes ": " ++ table_text e)
 refusal_text NoMemory = codes "out of memory"

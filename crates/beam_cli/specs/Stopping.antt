@@ -1,11 +1,19 @@
 -- Why a command stopped before its output: the status, the message and the cause.
 use Rattle.std.specs.Prelude.{◌≡◌, ◌<◌, ℕ, List, length, Option, IfSome, Any, ⊤}
+use Rattle.std.specs.Borrow.{Bor}
+use Rattle.beam_cli.specs.declared.refusal.Refusal.{Refusal}
+use Rattle.beam_cli.specs.declared.refusal.Refusal.TheVariants as refusals
 use Rattle.beam_cli.specs.declared.status.Status.{Status}
 use Rattle.beam_cli.specs.declared.status.Status.TheVariants as statuses
 use Rattle.beam_cli.specs.declared.stop.Stop.{Stop}
 use Rattle.beam_cli.specs.declared.stop.Stop.TheVariants.{Grammar, ReadFault, TooLarge, NoMemory}
 use Rattle.beam_cli.specs.Answer.{Answer, stopped}
 use Rattle.beam_cli.specs.Message.{line_about, read_fault_line, too_large_line, no_memory_line, refusal_text}
+
+-- what stops a command on a file for a refusal
+abbrev pub stop_of : Bor (List ℕ) → Refusal → Stop
+stop_of name refusals.NoMemory = NoMemory
+stop_of name e = Grammar name e
 
 abbrev pub status_of : Stop → Status
 status_of (Grammar name e) = statuses.Grammar

@@ -1,9 +1,10 @@
 //! The words of the command line.
 
-ghost use Rattle.std.specs.Prelude.{◌≡◌, option_map};
-ghost use Rattle.beam_cli.specs.Words.{asked_by, is_name};
+ghost use Rattle.std.specs.Prelude.{◌≡◌, [], ◌∷◌, option_map};
+ghost use Rattle.beam_cli.specs.Words.{asked_by, is_name, shown_by};
 ghost use Rattle.beam_cli.specs.Asking.{asked};
 
+use crate::shown::Shown;
 use bk_base::{Text, WordList};
 
 /// What is to be done, with the names of the files.
@@ -11,6 +12,8 @@ use bk_base::{Text, WordList};
 pub enum Command<'a> {
     /// Tells the size of a form, and the ids and sizes of its chunks.
     Info(&'a Text),
+    /// Shows one table.
+    Show(Shown, &'a Text),
 }
 
 // Whether a word names a file.
@@ -24,19 +27,60 @@ fn names_file(word: &Text) -> bool
     }
 }
 
+// The table that a word names.
+fn shown_by(word: &Text) -> Option<Shown>
+    ensures { result ≡ shown_by word.now }
+{
+    let word = word.as_bytes();
+    if word == b"atoms".as_slice() {
+        Some(Shown::Atoms)
+    } else if word == b"imports".as_slice() {
+        Some(Shown::Imports)
+    } else if word == b"exports".as_slice() {
+        Some(Shown::Exports)
+    } else if word == b"locals".as_slice() {
+        Some(Shown::Locals)
+    } else if word == b"funs".as_slice() {
+        Some(Shown::Funs)
+    } else {
+        None
+    }
+}
+
+// A command of two words.
+fn of_two<'a>(word: &Text, name: &'a Text) -> Option<Command<'a>>
+    ensures { option_map asked result ≡ asked_by (word.now ∷ name.now ∷ []) }
+{
+    if word.as_bytes() == b"info".as_slice() && names_file(name) {
+        return Some(Command::Info(name));
+    }
+    None
+}
+
+// A command of three words.
+fn of_three<'a>(word: &Text, what: &Text, name: &'a Text) -> Option<Command<'a>>
+    ensures { option_map asked result ≡ asked_by (word.now ∷ what.now ∷ name.now ∷ []) }
+{
+    if word.as_bytes() == b"show".as_slice() && names_file(name) {
+        return match shown_by(what) {
+            Some(what) => Some(Command::Show(what, name)),
+            None => None,
+        };
+    }
+    None
+}
+
 /// The command that the words are. None exactly where they are not in the command grammar. It takes
 /// no memory.
 pub fn command_from(words: &WordList) -> Option<Command<'_>>
     ensures { option_map asked result ≡ asked_by words.now }
 {
-    if words.len() != 2 {
+    if words.len() > 3 {
         return None;
     }
-    let (Some(word), Some(name)) = (words.get(0), words.get(1)) else {
-        return None;
-    };
-    if word.as_bytes() == b"info".as_slice() && names_file(name) {
-        return Some(Command::Info(name));
+    match (words.get(0), words.get(1), words.get(2)) {
+        (Some(word), Some(name), None) => of_two(word, name),
+        (Some(word), Some(what), Some(name)) => of_three(word, what, name),
+        _ => None,
     }
-    None
 }

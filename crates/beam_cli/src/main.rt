@@ -3,13 +3,19 @@
 
 mod command;
 mod making;
+mod needs;
+mod refusal;
 mod running;
 mod saying;
+mod showing;
+mod shown;
 mod status;
 mod stop;
 
 pub use crate::command::{Command, command_from};
+pub use crate::refusal::Refusal;
 pub use crate::running::run;
+pub use crate::shown::Shown;
 pub use crate::status::Status;
 pub use crate::stop::Stop;
 use bk_base::{NoMemory, Text, WordList};

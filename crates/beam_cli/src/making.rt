@@ -1,19 +1,24 @@
 //! Making the output of a command.
 
 ghost use Rattle.std.specs.Prelude.{◌≡◌, ◌≤◌, ◌⊎◌, ℕ, List, [], ◌∷◌, length, Some, IfOk, IfErr, IfSome, IsErr, OnOk};
+ghost use Rattle.bk_codec.specs.Reading.{GivesAll};
 ghost use Rattle.bk_port.specs.Causes.{Rose};
 ghost use Rattle.bk_port.specs.Reading.{IsLeftAfter, HasReadAtMost};
-ghost use Rattle.beam_cli.specs.Words.{Info, named};
+ghost use Rattle.beam_cli.specs.Words.{Info, Show, named};
 ghost use Rattle.beam_cli.specs.Asking.{asked};
-ghost use Rattle.beam_cli.specs.Answer.{made, info_answer, asked_answer};
+ghost use Rattle.beam_cli.specs.Answer.{made, info_output, asked_answer};
 ghost use Rattle.beam_cli.specs.Outcome.{SomeLeft};
-ghost use Rattle.beam_cli.specs.Stopping.{HasReason, HasLoadReason, IsTooLarge};
+ghost use Rattle.beam_cli.specs.Stopping.{HasReason, HasLoadReason, IsTooLarge, stop_of};
 
 use crate::command::Command;
+use crate::needs::form_of;
+use crate::refusal::Refusal;
+use crate::showing::show_text;
+use crate::shown::Shown;
 use crate::stop::Stop;
 use bk_base::{Bytes, Text};
 use bk_port::{Host, LoadFault, load};
-use iff_form::{FormRefusal, info_text, read_form};
+use iff_form::info_text;
 use std::alloc::Global;
 
 // The bytes of a named file.
@@ -37,18 +42,21 @@ fn load_file<'a, H: Host>(alloc: Global, host: &mut H, name: &'a Text) -> Result
     }
 }
 
-// The output of `info` for these bytes of the named file.
-fn info_of<'a>(alloc: Global, name: &'a Text, bytes: &[u8]) -> Result<Bytes, Stop<'a>>
-    ensures ok { IfOk result (λ text. info_answer name.now bytes.now ≡ made text.items) }
-    ensures reason { IfErr result (HasReason (Some (info_answer name.now bytes.now)) (λ _. ⊥) []) }
+// The output of `info` for these bytes.
+fn info_of(alloc: Global, bytes: &[u8]) -> Result<Bytes, Refusal>
+    ensures { GivesAll Refusal.NoMemory (λ text. text.items) result (info_output bytes.now) }
 {
-    match read_form(alloc, bytes) {
-        Ok(form) => match info_text(alloc, &form) {
-            Ok(text) => Ok(text),
-            Err(_) => Err(Stop::NoMemory),
-        },
-        Err(FormRefusal::NoMemory) => Err(Stop::NoMemory),
-        Err(refusal) => Err(Stop::Grammar(name, refusal)),
+    let form = form_of(alloc, bytes)?;
+    Ok(info_text(alloc, &form)?)
+}
+
+// What stops a command on this file for a refusal.
+fn stop_for<'a>(name: &'a Text, refusal: Refusal) -> Stop<'a>
+    ensures { result ≡ stop_of name.entry refusal }
+{
+    match refusal {
+        Refusal::NoMemory => Stop::NoMemory,
+        refusal => Stop::Grammar(name, refusal),
     }
 }
 
@@ -63,7 +71,32 @@ fn make_info<'a, H: Host>(alloc: Global, host: &mut H, name: &'a Text) -> Result
     ensures left { SomeLeft (H.holds host.old) (H.left host.old) (H.left host.new) (name.now ∷ []) }
 {
     let bytes = load_file(alloc, host, name)?;
-    info_of(alloc, name, bytes.as_slice())
+    match info_of(alloc, bytes.as_slice()) {
+        Ok(text) => Ok(text),
+        Err(refusal) => Err(stop_for(name, refusal)),
+    }
+}
+
+// The output of `show` on a file.
+fn make_show<'a, H: Host>(
+    alloc: Global,
+    host: &mut H,
+    what: Shown,
+    name: &'a Text,
+) -> Result<Bytes, Stop<'a>>
+    ensures ok { IfOk result (λ text. IfSome (asked_answer (H.holds host.old) (Show what name.now)) (λ a. a ≡ made text.items)) }
+    ensures reason { IfErr result (HasReason (asked_answer (H.holds host.old) (Show what name.now))
+        (λ n. Rose (H.faults host.old n) (H.faults host.new n)) (name.now ∷ [])) }
+    ensures too_large { IfErr result (λ stop. IsTooLarge stop → H.count host.new ≡ 16777217) }
+    ensures not_too_large { IfErr result (λ stop. IsTooLarge stop ⊎ HasReadAtMost 16777216 (H.count host.old) (H.count host.new)) }
+    ensures at_most { OnOk result (HasReadAtMost 16777216 (H.count host.old) (H.count host.new)) }
+    ensures left { SomeLeft (H.holds host.old) (H.left host.old) (H.left host.new) (name.now ∷ []) }
+{
+    let bytes = load_file(alloc, host, name)?;
+    match show_text(alloc, what, bytes.as_slice()) {
+        Ok(text) => Ok(text),
+        Err(refusal) => Err(stop_for(name, refusal)),
+    }
 }
 
 /// The whole output of a command, or why there is none.
@@ -82,5 +115,6 @@ pub fn make<'a, H: Host>(
 {
     match command {
         Command::Info(name) => make_info(alloc, host, name),
+        Command::Show(what, name) => make_show(alloc, host, what, name),
     }
 }

@@ -1,14 +1,17 @@
 //! The messages, which take no memory.
 
 ghost use Rattle.std.specs.Prelude.{◌≡◌, ◌++◌, List, ℕ, codes};
-ghost use Rattle.beam_cli.specs.Message.{line, line_about, refusal_text, usage_line, write_fault_line};
+ghost use Rattle.beam_cli.specs.Message.{line, line_about, form_text, refusal_text, table_text, usage_line, write_fault_line};
+ghost use Rattle.iff_form.specs.Text.{id_text};
 ghost use Rattle.beam_cli.specs.Outcome.{IsSaid};
 ghost use Rattle.beam_cli.specs.Stopping.{message_of};
 
+use crate::refusal::Refusal;
 use crate::stop::Stop;
 use bk_base::Text;
 use bk_port::{Sink, emit_all};
-use iff_form::{FormRefusal, IdText};
+use iff_form::{FormRefusal, Id, IdText};
+use index_tables::TableRefusal;
 use itoa::Buffer;
 
 // Writes a message of this text. A fault of the sink cuts it short and is passed over.
@@ -38,9 +41,9 @@ fn say_about<E: Sink>(
 }
 
 // Writes why a file is no form.
-fn say_refusal<E: Sink>(err: &mut E, name: &Text, refusal: FormRefusal)
+fn say_form<E: Sink>(err: &mut E, name: &Text, refusal: FormRefusal)
     ensures { IsSaid (E.written err.old) (E.written err.new) (E.faults err.old) (E.faults err.new)
-        (line_about name.now (refusal_text refusal)) }
+        (line_about name.now (form_text refusal)) }
 {
     let mut first = Buffer::new();
     let mut second = Buffer::new();
@@ -62,6 +65,45 @@ fn say_refusal<E: Sink>(err: &mut E, name: &Text, refusal: FormRefusal)
             say_about(err, name, b"chunk ", id.as_bytes(), b" twice at ", at)
         }
         FormRefusal::NoMemory => say_about(err, name, b"out of memory", b"", b"", b""),
+    }
+}
+
+// Writes why the payload of a chunk is not its table.
+fn say_table<E: Sink>(err: &mut E, name: &Text, id: Id, refusal: TableRefusal)
+    ensures { IsSaid (E.written err.old) (E.written err.new) (E.faults err.old) (E.faults err.new)
+        (line_about name.now (id_text id ++ (codes ": " ++ table_text refusal))) }
+{
+    let mut number = Buffer::new();
+    let id = IdText::new(id);
+    let id = id.as_bytes();
+    match refusal {
+        TableRefusal::Cut => say_about(err, name, id, b": ", b"", b"cut"),
+        TableRefusal::Rest => say_about(err, name, id, b": ", b"", b"rest"),
+        TableRefusal::AtomUtf8 { n } => {
+            let n = number.format(n).as_bytes();
+            say_about(err, name, id, b": atom ", n, b" is not UTF-8")
+        }
+        TableRefusal::AtomIndex { entry } => {
+            let entry = number.format(entry).as_bytes();
+            say_about(err, name, id, b": atom number in entry ", b"", entry)
+        }
+        TableRefusal::NoMemory => say_about(err, name, id, b": ", b"", b"out of memory"),
+    }
+}
+
+// Writes why a file is not what a command needs.
+fn say_refusal<E: Sink>(err: &mut E, name: &Text, refusal: Refusal)
+    ensures { IsSaid (E.written err.old) (E.written err.new) (E.faults err.old) (E.faults err.new)
+        (line_about name.now (refusal_text refusal)) }
+{
+    match refusal {
+        Refusal::Form(refusal) => say_form(err, name, refusal),
+        Refusal::Missing(id) => {
+            let id = IdText::new(id);
+            say_about(err, name, b"no chunk ", b"", b"", id.as_bytes())
+        }
+        Refusal::Table(id, refusal) => say_table(err, name, id, refusal),
+        Refusal::NoMemory => say_about(err, name, b"out of memory", b"", b"", b""),
     }
 }
 

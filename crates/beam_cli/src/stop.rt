@@ -2,15 +2,15 @@
 
 ghost use Rattle.std.specs.Prelude.{◌≡◌};
 
+use crate::refusal::Refusal;
 use crate::status::Status;
 use bk_base::Text;
-use iff_form::FormRefusal;
 
 /// Why a command stopped before its output was made, with the name of the file.
 #[derive(Clone, Copy, Debug)]
 pub enum Stop<'a> {
     /// The file is not in the grammar that the command needs.
-    Grammar(&'a Text, FormRefusal),
+    Grammar(&'a Text, Refusal),
     /// The file could not be read.
     ReadFault(&'a Text),
     /// The file has more bytes than are taken.

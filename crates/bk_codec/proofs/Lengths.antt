@@ -29,7 +29,7 @@ number_at-length {E} cut n bytes x rest e =
 -- ---- the one refusal of a field
 
 pub bytes_at-refused : {E : Type 0} (cut : E) (n : ℕ) (bytes : List ℕ) (e : E) → bytes_at cut n bytes ≡ Err e → e ≡ cut
-bytes_at-refused cut n bytes e h = (guard_err (ltb (length bytes) n) cut (take n bytes, drop n bytes) e h).1
+bytes_at-refused cut n bytes e h = sym (guard_err (ltb (length bytes) n) cut (take n bytes, drop n bytes) e h).1
 
 pub number_at-refused : {E : Type 0} (cut : E) (n : ℕ) (bytes : List ℕ) (e : E) → number_at cut n bytes ≡ Err e → e ≡ cut
-number_at-refused cut n bytes e h = (guard_err (ltb (length bytes) n) cut (big_number n bytes, drop n bytes) e h).1
+number_at-refused cut n bytes e h = sym (guard_err (ltb (length bytes) n) cut (big_number n bytes, drop n bytes) e h).1

@@ -3,4 +3,7 @@ pub mod Numbers
 pub mod Agreement
 pub mod Lengths
 pub mod Loop
+pub mod Counted
+pub mod Ended
+pub mod Refused
 pub mod ToTheEnd

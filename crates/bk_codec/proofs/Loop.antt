@@ -7,7 +7,7 @@ use Rattle.bk_codec.specs.Reading.{giving, made_of, many_at, Fails}
 abbrev pub with_front : {E A : Type 0} → List A → Result (List A × List ℕ) E → Result (List A × List ℕ) E
 with_front front read = made_of (λ xs. front ++ xs) read
 
-regroup : {E A : Type 0} (front : List A) (x : A) (read : Result (List A × List ℕ) E) → with_front front (made_of (λ xs. x ∷ xs) read) ≡ with_front (front ++ x ∷ []) read
+pub regroup : {E A : Type 0} (front : List A) (x : A) (read : Result (List A × List ℕ) E) → with_front front (made_of (λ xs. x ∷ xs) read) ≡ with_front (front ++ x ∷ []) read
 regroup front x (Ok q) = ap (λ (xs : List _). Ok (xs, q.1)) (sym (append_assoc front (x ∷ []) q.0))
 regroup front x (Err e) = refl
 

@@ -43,6 +43,10 @@ made_ok f (Ok x) y rest e =
     (x.0, ap (λ (r : List ℕ). Ok (x.0, r)) left, value)
 made_ok f (Err d) y rest e = absurd cc
 
+pub made_err : {E A B : Type 0} (f : A → B) (r : Result (A × List ℕ) E) (e : E) → made_of f r ≡ Err e → r ≡ Err e
+made_err f (Ok x) e h = absurd cc
+made_err f (Err d) e h = let same : d ≡ e = cc in ap (λ (z : _). Err z) same
+
 -- which way a test went
 pub chosen : {A : Type 0} (b : Bool) (x y z : A) → cond b x y ≡ z → ((b ≡ true) × (x ≡ z)) ⊎ ((b ≡ false) × (y ≡ z))
 chosen true x y z e = inl (refl, e)
@@ -53,12 +57,12 @@ pub guard_ok : {E A : Type 0} (b : Bool) (d : E) (r : Result A E) (y : A) → co
 guard_ok true d r y e = absurd cc
 guard_ok false d r y e = (refl, e)
 
+-- a test before a value that was refused
+pub guard_err : {E A : Type 0} (b : Bool) (d : E) (x : A) (e : E) → cond b (Err d) (Ok x) ≡ Err e → (b ≡ true) × (d ≡ e)
+guard_err true d x e h = let same : d ≡ e = cc in (refl, same)
+guard_err false d x e h = absurd cc
+
 -- two second steps that agree on what the first gives
 pub bind_same : {E A B : Type 0} (r : Result A E) (f g : A → Result B E) → ((x : A) → r ≡ Ok x → f x ≡ g x) → (r >>= f) ≡ (r >>= g)
 bind_same (Ok x) f g same = same x refl
 bind_same (Err d) f g same = refl
-
--- a refusal of a test that has one value alone
-pub guard_err : {E A : Type 0} (b : Bool) (d : E) (x : A) (e : E) → cond b (Err d) (Ok x) ≡ Err e → (b ≡ true) × (e ≡ d)
-guard_err true d x e h = (refl, sym (err_is d e h))
-guard_err false d x e h = absurd cc

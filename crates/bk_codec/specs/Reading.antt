@@ -34,6 +34,24 @@ abbrev pub many_at : {E A : Type 0} → (List ℕ → Result (A × List ℕ) E) 
 many_at one zero bytes = giving [] bytes
 many_at one (suc n) bytes = one bytes >>= λ x. made_of (λ xs. x.0 ∷ xs) (many_at one n x.1)
 
+-- as many values as a count says, each read by its number, and the numbers go up from i
+abbrev pub numbered_at : {E A : Type 0} → (ℕ → List ℕ → Result (A × List ℕ) E) → ℕ → ℕ → List ℕ → Result (List A × List ℕ) E
+numbered_at one i zero bytes = giving [] bytes
+numbered_at one i (suc n) bytes = one i bytes >>= λ x. made_of (λ xs. x.0 ∷ xs) (numbered_at one (suc i) n x.1)
+
+-- a word with a count, and then as many values, whose numbers go up from i
+abbrev pub counted_at : {E A : Type 0} → E → (ℕ → List ℕ → Result (A × List ℕ) E) → ℕ → List ℕ → Result (List A × List ℕ) E
+counted_at cut one i bytes = number_at cut 4 bytes >>= λ n. numbered_at one i n.0 n.1
+
+-- a value with no byte behind it; `rest` where bytes are left
+abbrev pub alone : {E A : Type 0} → E → A → List ℕ → Result A E
+alone rest x [] = Ok x
+alone rest x (b ∷ bytes) = Err rest
+
+-- a value that takes all of the bytes
+abbrev pub ended : {E A : Type 0} → E → Result (A × List ℕ) E → Result A E
+ended rest read = read >>= λ x. alone rest x.0 x.1
+
 -- values up to the end of the bytes, of which there are at most n
 abbrev pub all_at : {E A : Type 0} → (List ℕ → Result (A × List ℕ) E) → ℕ → List ℕ → Result (List A) E
 all_at one n [] = Ok []

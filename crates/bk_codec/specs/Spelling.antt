@@ -1,5 +1,5 @@
 -- How values are spelled as bytes: relations between a value and a list of bytes.
-use Rattle.std.specs.Prelude.{◌≡◌, ℕ, ◌<◌, ◌^◌, List, [], ◌∷◌, ◌++◌, slice_index}
+use Rattle.std.specs.Prelude.{◌≡◌, ℕ, ◌<◌, ◌^◌, List, [], ◌∷◌, ◌++◌, length, slice_index}
 use Rattle.byteorder.specs.Endian.{big_bytes}
 
 -- every item is a byte
@@ -27,3 +27,7 @@ pub record SpellsNumber (n x : ℕ) (bytes : List ℕ) : Type 0 where
 -- a number of 32 bits
 abbrev pub SpellsWord : ℕ → List ℕ → Type 0
 SpellsWord = SpellsNumber 4
+
+-- a word with the count of the values, and then the values one after another
+abbrev pub SpellsCounted : {A : Type 0} → (A → List ℕ → Type 0) → List A → List ℕ → Type 0
+SpellsCounted R xs = Then (SpellsWord (length xs)) (SpellsMany R xs)

@@ -1,5 +1,5 @@
-use Rattle.std.specs.Prelude.{◌≡◌, List, ℕ, [], ◌++◌, Option, Some, None}
-use Rattle.std.proofs.Common.{refl, ap, sym, append_assoc, append-nil}
+use Rattle.std.specs.Prelude.{◌≡◌, List, ℕ, ◌++◌, Option, Some, None}
+use Rattle.std.proofs.Common.{refl, ap, sym, append_assoc}
 use Rattle.bk_port.specs.Known.{before_known, after_known}
 
 -- one part before another, both before what is known
@@ -11,8 +11,3 @@ before_known-append front back (Some rest) = ap (λ (l : List ℕ). Some l) (sym
 pub after_known-append : (known : Option (List ℕ)) (front back : List ℕ) → after_known (after_known known front) back ≡ after_known known (front ++ back)
 after_known-append None front back = refl
 after_known-append (Some known) front back = ap (λ (l : List ℕ). Some l) (append_assoc known front back)
-
--- no bytes after what is known
-pub after_known-nil : (known : Option (List ℕ)) → known ≡ after_known known []
-after_known-nil None = refl
-after_known-nil (Some known) = ap (λ (l : List ℕ). Some l) (sym (append-nil known))

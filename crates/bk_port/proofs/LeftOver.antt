@@ -1,5 +1,5 @@
 use Rattle.std.specs.Prelude.{◌≡◌, ℕ, ◌+◌, ◌-◌, ◌≤◌, min, List, ◌++◌, take, drop, length, Option, Some, None, option_map}
-use Rattle.std.proofs.Common.{refl, ap, sym, ◌∙◌, inl, inr, subst, arith, length-append, length-take}
+use Rattle.std.proofs.Common.{refl, ap, sym, ◌∙◌, inr, arith, length-append, length-take}
 use Rattle.std.proofs.Math.Seq.{drop-append_seam}
 use Rattle.bk_port.specs.Known.{before_known}
 use Rattle.bk_port.specs.Reading.{IsLeftAfter}

@@ -1,18 +1,14 @@
-use Rattle.std.specs.Prelude.{◌≡◌, List, ℕ, ◌≤◌, [], ◌++◌, take, drop, length, Option}
-use Rattle.std.proofs.Common.{refl, ap, sym, ◌∙◌, append_assoc, take-append-drop}
+use Rattle.std.specs.Prelude.{◌≡◌, List, ℕ, ◌++◌, Option}
+use Rattle.std.proofs.Common.{ap, sym, ◌∙◌, append_assoc}
 use Rattle.bk_port.specs.Known.{after_known}
 use Rattle.bk_port.specs.Writing.{WritesPart}
-use Rattle.bk_port.proofs.KnownBytes.{after_known-append, after_known-nil}
+use Rattle.bk_port.proofs.KnownBytes.{after_known-append}
 
 -- a front part of the bytes was written, and the rest is still to be
 pub record Sent (old new : Option (List ℕ)) (bytes rest : List ℕ) : Type 0 where
   pub part : List ℕ
   pub whole : bytes ≡ part ++ rest
   pub written : new ≡ after_known old part
-
--- nothing was written yet
-pub sent_none : (old : Option (List ℕ)) (bytes : List ℕ) → Sent old old bytes bytes
-sent_none old bytes = record { part = []; whole = refl; written = after_known-nil old }
 
 -- one more piece was written
 pub sent_more : (old new newer : Option (List ℕ)) (bytes rest piece next : List ℕ) → Sent old new bytes rest → newer ≡ after_known new piece → rest ≡ piece ++ next → Sent old newer bytes next
@@ -30,7 +26,3 @@ sent_some old new newer bytes rest piece next sent some is_next = record {
   whole = sent.whole ∙ ap (λ l. sent.part ++ l) (is_next ∙ ap (λ l. l ++ next) some.whole ∙ append_assoc some.part some.rest next) ∙ sym (append_assoc sent.part some.part (some.rest ++ next));
   written = some.written ∙ ap (λ o. after_known o some.part) sent.written ∙ after_known-append old sent.part some.part;
 }
-
--- what was written so far is a part
-pub sent_part : (old new : Option (List ℕ)) (bytes rest : List ℕ) → Sent old new bytes rest → WritesPart old new bytes
-sent_part old new bytes rest sent = record { part = sent.part; rest = rest; whole = sent.whole; written = sent.written }

@@ -3,5 +3,5 @@ pub mod Known
 pub mod Listed
 pub mod Reading
 pub mod Source
-pub mod Taken
+pub mod Store
 pub mod Writing

@@ -11,7 +11,7 @@ use std::io::{Input, Read};
 use std::rt::Files;
 
 // What is read from.
-#[derive(Debug, Drop)]
+#[derive(Drop)]
 enum Source<F, I> {
     Nothing,
     Input(I),
@@ -69,7 +69,7 @@ impl<R: Files + Input + Drop> Host for FileHost<R> {
     fn start(&mut self, name: &Text) -> Result<(), Failed> {
         // What was open is closed first.
         self.source = Source::Nothing;
-        if name.as_bytes() == b"-".as_slice() {
+        if name.as_str() == "-" {
             self.source = Source::Input(self.runtime.reader());
         } else {
             match fs::open(&self.runtime, name.as_str()) {

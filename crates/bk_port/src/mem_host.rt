@@ -23,6 +23,7 @@ impl MemHost {
     /// A host of these files, of which none is started. It takes no memory.
     pub fn new(files: FileList) -> MemHost
         ensures holds { (n : List ℕ) → ⟦<MemHost as Host>⟧.holds result n ≡ Some (bytes_held files n) }
+        ensures count { ⟦<MemHost as Host>⟧.count result ≡ 0 }
     {
         MemHost {
             files,

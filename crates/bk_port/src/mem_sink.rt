@@ -23,9 +23,9 @@ pub struct MemSink {
 
 impl Model for MemSink {
     ghost use Rattle.std.specs.Prelude.{◌≤◌};
-    ghost use Rattle.bk_port.specs.Taken.{Taken};
+    ghost use Rattle.bk_port.specs.Store.{Store};
 
-    ghost Value = { Taken };
+    ghost Value = { Store };
 
     ghost view = { λ s. record { bytes = s.buffer.items; room = s.left; faults = s.refused } };
 

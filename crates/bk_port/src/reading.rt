@@ -40,6 +40,7 @@ pub fn load<H: Host>(alloc: Global, host: &mut H, name: &Text) -> Result<Bytes, 
         HasReadAtMost 16777216 (H.count host.old) (H.count host.new) }
     ensures too_large_known { IsErrOf result LoadFault.TooLarge →
         IfSome (H.holds host.old name.now) (λ all. 16777216 < length all) }
+    ensures no_memory { IsErrOf result LoadFault.NoMemory → H.count host.new ≤ 16777216 }
     ensures left { IsLeftAfter 16777217 (H.holds host.old name.now) (H.left host.old) (H.left host.new) }
     ensures holds { (n : List ℕ) → H.holds host.new n ≡ H.holds host.old n }
     ensures later { (n : List ℕ) → H.faults host.old n ≤ H.faults host.new n }

@@ -9,7 +9,8 @@ use crate::sink::{Sink, WriteFault};
 
 /// Writes all bytes.
 ///
-/// It fails only where the sink's faults rose, with a front part written, and never at no bytes.
+/// It fails only where the sink's faults rose, with a front part written, and never where there are
+/// no bytes.
 pub fn emit<S: Sink>(sink: &mut S, bytes: &[u8]) -> Result<(), WriteFault>
     ensures ok { OnOk result (S.written sink.new ≡ after_known (S.written sink.old) bytes.now) }
     ensures err { OnErr result (WritesPart (S.written sink.old) (S.written sink.new) bytes.now) }

@@ -1,4 +1,4 @@
-use Rattle.std.proofs.Common.{ℕ, ◌≤◌, length}
+use Rattle.std.proofs.Common.{◌≤◌, length}
 use Rattle.bk_port.proofs.Sent.{Sent}
 use Rattle.bk_port.proofs.writing.emit.Given as goal
 

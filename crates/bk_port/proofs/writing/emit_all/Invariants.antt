@@ -1,4 +1,4 @@
-use Rattle.std.proofs.Common.{◌≡◌, ℕ, ◌≤◌, List, [], ◌++◌, length, take, drop}
+use Rattle.std.proofs.Common.{◌≤◌, drop}
 use Rattle.bk_port.specs.Writing.{joined}
 use Rattle.bk_port.proofs.Sent.{Sent}
 use Rattle.bk_port.proofs.writing.emit_all.Given as goal

@@ -1,0 +1,32 @@
+-- What commands need of a file, with the first refusal where it is missing.
+use Rattle.std.specs.Prelude.{ℕ, List, Option, Some, None, Result, Ok, Err}
+use Rattle.bk_codec.specs.Reading.{◌>>=◌}
+use Rattle.iff_form.specs.declared.id.Id.{Id}
+use Rattle.iff_form.specs.declared.refusal.FormRefusal.{FormRefusal}
+use Rattle.iff_form.specs.Chunk.{PlainChunk}
+use Rattle.iff_form.specs.Form.{payload_of}
+use Rattle.iff_form.specs.Reading.{form_of}
+use Rattle.index_tables.specs.declared.refusal.TableRefusal.{TableRefusal}
+use Rattle.beam_cli.specs.declared.refusal.Refusal.{Refusal}
+use Rattle.beam_cli.specs.declared.refusal.Refusal.TheVariants.{Form, Missing, Table}
+
+-- what was read, or the refusal as one of the file
+abbrev pub refused_as : {A E : Type 0} → (E → Refusal) → Result A E → Result A Refusal
+refused_as why (Ok x) = Ok x
+refused_as why (Err e) = Err (why e)
+
+-- the chunks of the form that the file is
+abbrev pub chunks_of : List ℕ → Result (List PlainChunk) Refusal
+chunks_of bytes = refused_as Form (form_of bytes)
+
+-- the payload of a chunk that has to be there
+abbrev pub found_or : Id → Option (List ℕ) → Result (List ℕ) Refusal
+found_or id (Some payload) = Ok payload
+found_or id None = Err (Missing id)
+
+abbrev pub payload_at : Id → List PlainChunk → Result (List ℕ) Refusal
+payload_at id chunks = found_or id (payload_of id chunks)
+
+-- the table in a chunk that has to be there
+abbrev pub table_at : {A : Type 0} → (List ℕ → Result A TableRefusal) → Id → List PlainChunk → Result A Refusal
+table_at read id chunks = payload_at id chunks >>= λ payload. refused_as (Table id) (read payload)

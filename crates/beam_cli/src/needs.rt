@@ -1,0 +1,43 @@
+//! What commands need of a file.
+
+ghost use Rattle.std.specs.Prelude.{◌≡◌, codes};
+ghost use Rattle.bk_codec.specs.Reading.{GivesAll};
+ghost use Rattle.index_tables.specs.Reading.{all_atoms};
+ghost use Rattle.beam_cli.specs.Needs.{chunks_of, payload_at, table_at};
+ghost use Rattle.beam_cli.specs.Showing.{id_of};
+
+use crate::refusal::Refusal;
+use iff_form::{Form, FormRefusal, Id, read_form};
+use index_tables::{Atoms, TableRefusal, read_atoms};
+use std::alloc::Global;
+
+/// The form that the bytes are.
+pub fn form_of<'a>(alloc: Global, bytes: &'a [u8]) -> Result<Form<'a>, Refusal>
+    ensures { GivesAll Refusal.NoMemory (λ chunks. chunks) result (chunks_of bytes.now) }
+{
+    match read_form(alloc, bytes) {
+        Ok(form) => Ok(form),
+        Err(FormRefusal::NoMemory) => Err(Refusal::NoMemory),
+        Err(refusal) => Err(Refusal::Form(refusal)),
+    }
+}
+
+/// The payload of the chunk with this id.
+pub fn payload_of<'a>(form: &Form<'a>, id: Id) -> Result<&'a [u8], Refusal>
+    ensures { GivesAll Refusal.NoMemory (λ payload. payload.now) result (payload_at id form.now) }
+{
+    form.find(id).ok_or(Refusal::Missing(id))
+}
+
+/// The atoms of the module.
+pub fn atoms_of(alloc: Global, form: &Form<'_>) -> Result<Atoms, Refusal>
+    ensures { GivesAll Refusal.NoMemory (λ names. names) result (table_at all_atoms (id_of (codes "AtU8")) form.now) }
+{
+    let id = Id(*b"AtU8");
+    let payload = payload_of(form, id)?;
+    match read_atoms(alloc, payload) {
+        Ok(atoms) => Ok(atoms),
+        Err(TableRefusal::NoMemory) => Err(Refusal::NoMemory),
+        Err(refusal) => Err(Refusal::Table(id, refusal)),
+    }
+}

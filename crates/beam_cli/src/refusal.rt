@@ -1,0 +1,30 @@
+//! Why a file is not what a command needs.
+
+ghost use Rattle.std.specs.Prelude.{◌≡◌};
+ghost use Rattle.beam_cli.specs.declared.refusal.Refusal.TheVariants as refusals;
+
+use bk_base::NoMemory;
+use iff_form::{FormRefusal, Id};
+use index_tables::TableRefusal;
+
+/// Why a file is not in the grammar that a command needs, or that memory ran out. A refusal that is
+/// carried here is never one for want of memory.
+#[derive(Clone, Copy, Debug)]
+pub enum Refusal {
+    /// The file is no form.
+    Form(FormRefusal),
+    /// The form has no chunk with this id.
+    Missing(Id),
+    /// The payload of the chunk with this id is not its table.
+    Table(Id, TableRefusal),
+    /// Memory ran out.
+    NoMemory,
+}
+
+impl From<NoMemory> for Refusal {
+    ghost from_gives = { λ _ e. e ≡ refusals.NoMemory };
+
+    fn from(_e: NoMemory) -> Refusal {
+        Refusal::NoMemory
+    }
+}

@@ -1,0 +1,9 @@
+//! External terms as text.
+#![tactic(auto)]
+
+mod name;
+
+pub use name::name_text;
+
+#[cfg(test)]
+mod tests;

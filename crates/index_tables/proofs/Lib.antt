@@ -1,0 +1,3 @@
+pub mod AtomSpelling
+pub mod EntrySpelling
+pub mod Lines

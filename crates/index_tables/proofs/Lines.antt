@@ -1,0 +1,37 @@
+-- A text grows by a line at a time.
+use Rattle.std.proofs.Common.{◌≡◌, ℕ, zero, suc, ◌+◌, ◌<◌, List, [], ◌∷◌, ◌++◌, length, get_or, take, refl, sym, ap, subst, ◌∙◌, append_assoc, arith}
+use Rattle.std.specs.List.{flat_map, enumerate_from}
+use Rattle.std.proofs.lemmas.List.{append-nil}
+use Rattle.index_tables.specs.Text.{numbered_lines}
+
+pub lines_more : {A : Type 0} (first : ℕ) (line : ℕ → A → List ℕ) (xs : List A) (i : ℕ) (d : A) → i < length xs
+    → numbered_lines first line (take (i + 1) xs) ≡ numbered_lines first line (take i xs) ++ line (first + i) (get_or xs i d)
+lines_more first line [] i d lt = absurd (omega arith)
+lines_more first line (x ∷ xs) zero d lt =
+    let number : first ≡ first + 0 = omega arith in
+    append-nil (line first x) ∙ ap (λ (n : ℕ). line n x) number
+lines_more first line (x ∷ xs) (suc i) d lt =
+    let next : suc i + 1 ≡ suc (i + 1) = omega arith in
+    let number : first + 1 + i ≡ first + suc i = omega arith in
+    ap (λ (n : ℕ). numbered_lines first line (take n (x ∷ xs))) next
+    ∙ ap (λ (t : List ℕ). line first x ++ t) (lines_more (first + 1) line xs i d (omega arith))
+    ∙ sym (append_assoc (line first x) (numbered_lines (first + 1) line (take i xs)) (line (first + 1 + i) (get_or xs i d)))
+    ∙ ap (λ (n : ℕ). line first x ++ numbered_lines (first + 1) line (take i xs) ++ line n (get_or xs i d)) number
+
+-- one line more was written: that of item i, whose number is k
+pub line_written : {A : Type 0} (first : ℕ) (line : ℕ → A → List ℕ) (xs items : List A) (i k : ℕ) (x : A) (old new : List ℕ)
+    → i < length items → items ≡ xs → x ≡ get_or items i x → k ≡ first + i → old ≡ numbered_lines first line (take i xs) → new ≡ old ++ line k x
+    → new ≡ numbered_lines first line (take (i + 1) xs)
+line_written first line xs items i k x old new lt same item number before written =
+    let item_is : x ≡ get_or xs i x = item ∙ ap (λ (ys : List _). get_or ys i x) same in
+    let inside : i < length xs = subst (λ (ys : List _). i < length ys) same lt in
+    written
+    ∙ ap (λ (t : List ℕ). t ++ line k x) before
+    ∙ ap (λ (y : _). numbered_lines first line (take i xs) ++ line k y) item_is
+    ∙ ap (λ (n : ℕ). numbered_lines first line (take i xs) ++ line n (get_or xs i x)) number
+    ∙ sym (lines_more first line xs i x inside)
+
+-- lines that show no number
+pub lines-plain : {A : Type 0} (first : ℕ) (line : A → List ℕ) (xs : List A) → numbered_lines first (λ _ x. line x) xs ≡ flat_map line xs
+lines-plain first line [] = refl
+lines-plain first line (x ∷ xs) = ap (λ (t : List ℕ). line x ++ t) (lines-plain (first + 1) line xs)

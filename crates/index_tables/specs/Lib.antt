@@ -1,0 +1,6 @@
+pub mod Atoms
+pub mod Entries
+pub mod Shape
+pub mod Reading
+pub mod Text
+pub mod Refusal

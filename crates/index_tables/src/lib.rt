@@ -1,0 +1,21 @@
+//! The tables of names of a module: its atoms, imports, exports, local functions and funs, read from
+//! their chunks and written as text.
+#![tactic(auto)]
+
+mod atoms;
+mod entry;
+mod laws;
+mod reading;
+mod refusal;
+mod table;
+mod text;
+
+pub use entry::{Export, Fun, Import};
+pub use laws::{atoms_are_decided, entries_are_decided};
+pub use reading::{read_atoms, read_exports, read_funs, read_imports, read_locals};
+pub use refusal::TableRefusal;
+pub use table::{Atoms, Exports, Funs, Imports, Table};
+pub use text::{atoms_text, exports_text, funs_text, imports_text};
+
+#[cfg(test)]
+mod tests;

@@ -1,0 +1,160 @@
+//! The tables as text.
+
+ghost use Rattle.std.specs.Prelude.{◌≡◌, ◌++◌, ◌<◌, ◌^◌, ℕ, List, All, IfOk, OnOk, decimal};
+ghost use Rattle.std.specs.List.{flat_map};
+ghost use Rattle.ext_term.specs.Name.{name_text};
+ghost use Rattle.index_tables.specs.Atoms.{IsAtom, atom_name};
+ghost use Rattle.index_tables.specs.Entries.{NamesAtoms, import_atoms, export_atoms, fun_atoms};
+ghost use Rattle.index_tables.specs.Text.{function_text, import_text, atom_line, numbered_lines, atoms_text, imports_text, exports_text, funs_text};
+
+use crate::entry::{Entry, Export, Fun, Import};
+use crate::table::{Atoms, Exports, Funs, Imports, Table};
+use bk_base::{Bytes, NoMemory};
+use ext_term::name_text;
+use itoa::{Buffer, Integer};
+use std::alloc::Global;
+
+/// The text of the atoms: a line `N NAME` for each, counted from 1.
+pub fn atoms_text(alloc: Global, t: &Atoms) -> Result<Bytes, NoMemory>
+    ensures { IfOk result (λ out. out.items ≡ atoms_text t.now) }
+{
+    let mut out = Bytes::new(alloc);
+    for (i, name) in t.as_slice().iter().enumerate() {
+        put_atom_line(&mut out, i + 1, name.as_bytes())?;
+    }
+    Ok(out)
+}
+
+/// The text of the imports: a line `N MODULE:FUNCTION/ARITY` for each, counted from 0.
+pub fn imports_text(alloc: Global, t: &Imports, atoms: &Atoms) -> Result<Bytes, NoMemory>
+    requires { NamesAtoms import_atoms atoms.now t.now }
+    ensures { IfOk result (λ out. out.items ≡ imports_text atoms.now t.now) }
+{
+    table_text(alloc, t, atoms)
+}
+
+/// The text of exports or local functions: a line `NAME/ARITY LABEL` for each.
+pub fn exports_text(alloc: Global, t: &Exports, atoms: &Atoms) -> Result<Bytes, NoMemory>
+    requires { NamesAtoms export_atoms atoms.now t.now }
+    ensures { IfOk result (λ out. out.items ≡ exports_text atoms.now t.now) }
+{
+    table_text(alloc, t, atoms)
+}
+
+/// The text of the funs: a line `N NAME/ARITY label L index I free F unique U` for each, counted
+/// from 0.
+pub fn funs_text(alloc: Global, t: &Funs, atoms: &Atoms) -> Result<Bytes, NoMemory>
+    requires { NamesAtoms fun_atoms atoms.now t.now }
+    ensures { IfOk result (λ out. out.items ≡ funs_text atoms.now t.now) }
+{
+    table_text(alloc, t, atoms)
+}
+
+/// An entry with a line of text.
+trait Shown: Entry {
+    ghost line: { List (List ℕ) → ℕ → Self → List ℕ };
+
+    fn put_line(&self, out: &mut Bytes, number: usize, atoms: &Atoms) -> Result<(), NoMemory>
+        requires { All (IsAtom atoms.now) (Self.shape.atoms self.now) }
+        ensures { OnOk result (out.new.items ≡ out.old.items ++ line atoms.now number self.now) };
+}
+
+impl Shown for Import {
+    ghost use Rattle.index_tables.specs.Text.{import_line};
+
+    ghost line = { import_line };
+
+    fn put_line(&self, out: &mut Bytes, number: usize, atoms: &Atoms) -> Result<(), NoMemory> {
+        put_number(out, number)?;
+        out.push(b' ')?;
+        put_import(out, atoms, self)?;
+        out.push(b'\n')
+    }
+}
+
+impl Shown for Export {
+    ghost use Rattle.index_tables.specs.Text.{export_line};
+
+    ghost line = { λ names _ x. export_line names x };
+
+    fn put_line(&self, out: &mut Bytes, _number: usize, atoms: &Atoms) -> Result<(), NoMemory> {
+        put_function(out, atoms, self.name, self.arity)?;
+        put_field(out, b" ", self.label)?;
+        out.push(b'\n')
+    }
+}
+
+impl Shown for Fun {
+    ghost use Rattle.index_tables.specs.Text.{fun_line};
+
+    ghost line = { fun_line };
+
+    fn put_line(&self, out: &mut Bytes, number: usize, atoms: &Atoms) -> Result<(), NoMemory> {
+        put_number(out, number)?;
+        out.push(b' ')?;
+        put_function(out, atoms, self.name, self.arity)?;
+        put_field(out, b" label ", self.label)?;
+        put_field(out, b" index ", self.index)?;
+        put_field(out, b" free ", self.free)?;
+        put_field(out, b" unique ", self.unique)?;
+        out.push(b'\n')
+    }
+}
+
+fn table_text<T: Shown>(alloc: Global, t: &Table<T>, atoms: &Atoms) -> Result<Bytes, NoMemory>
+    requires { NamesAtoms T.shape.atoms atoms.now t.now }
+    ensures { IfOk result (λ out. out.items ≡ numbered_lines 0 (T.line atoms.now) t.now) }
+{
+    let mut out = Bytes::new(alloc);
+    for (number, entry) in t.as_slice().iter().enumerate() {
+        entry.put_line(&mut out, number, atoms)?;
+    }
+    Ok(out)
+}
+
+fn put_atom_line(out: &mut Bytes, number: usize, name: &[u8]) -> Result<(), NoMemory>
+    ensures { OnOk result (out.new.items ≡ out.old.items ++ atom_line number name.now) }
+{
+    put_number(out, number)?;
+    out.push(b' ')?;
+    name_text(name, out)?;
+    out.push(b'\n')
+}
+
+fn put_import(out: &mut Bytes, atoms: &Atoms, import: &Import) -> Result<(), NoMemory>
+    requires { All (IsAtom atoms.now) (import_atoms import.now) }
+    ensures { OnOk result (out.new.items ≡ out.old.items ++ import_text atoms.now import.now) }
+{
+    put_name(out, atoms, import.module)?;
+    out.push(b':')?;
+    put_function(out, atoms, import.name, import.arity)
+}
+
+fn put_function(out: &mut Bytes, atoms: &Atoms, name: u32, arity: u32) -> Result<(), NoMemory>
+    requires { IsAtom atoms.now name }
+    ensures { OnOk result (out.new.items ≡ out.old.items ++ function_text atoms.now name arity) }
+{
+    put_name(out, atoms, name)?;
+    put_field(out, b"/", arity)
+}
+
+fn put_name(out: &mut Bytes, atoms: &Atoms, number: u32) -> Result<(), NoMemory>
+    requires { IsAtom atoms.now number }
+    ensures { OnOk result (out.new.items ≡ out.old.items ++ name_text (atom_name atoms.now number)) }
+{
+    let name = atoms.name(number).unwrap();
+    name_text(name.as_bytes(), out)
+}
+
+fn put_field(out: &mut Bytes, label: &[u8], number: u32) -> Result<(), NoMemory>
+    ensures { OnOk result (out.new.items ≡ out.old.items ++ label.now ++ decimal number) }
+{
+    out.extend(label)?;
+    put_number(out, number)
+}
+
+fn put_number<I: Integer>(out: &mut Bytes, number: I) -> Result<(), NoMemory>
+    ensures { OnOk result (out.new.items ≡ out.old.items ++ I.text number) }
+{
+    out.extend(Buffer::new().format(number).as_bytes())
+}
