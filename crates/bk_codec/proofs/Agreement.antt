@@ -1,7 +1,8 @@
 -- When a reading and a spelling agree, and what follows.
 use Rattle.std.proofs.Common.{◌≡◌, ◌⊎◌, ℕ, zero, suc, ◌+◌, ◌-◌, ◌^◌, ◌<◌, ◌≤◌, false, ltb, List, [], ◌∷◌, ◌++◌, length, take, drop, get_or, Result, Ok, Err, refl, sym, ap, subst, ◌∙◌, append_assoc, arith, inl, inr, length-append}
 use Rattle.std.proofs.lemmas.Bool.{cases_lt, ltb-false, le-ltb}
-use Rattle.std.proofs.lemmas.List.{take_at, drop_at, take-append-drop, length-take, get_or-drop, get_or-take, get_or_past}
+use Rattle.std.proofs.lemmas.List.{take_at, drop_at, take-append-drop, length-take, get_or-drop, get_or-take, get_or-append-add, get_or_past}
+use Rattle.std.proofs.Math.ListN.{get_or-append}
 use Rattle.byteorder.specs.Endian.{big_number, big_bytes, big_from}
 use Rattle.byteorder.specs.Numbers.{big_from-lt, big_number-reads_back, length-bytes_high_first}
 use Rattle.bk_codec.specs.Reading.{◌>>=◌, giving, made_of, byte_at, bytes_at, number_at, many_at}
@@ -23,6 +24,16 @@ IsBytes-take n bytes fits i =
 
 pub IsBytes-tail : (b : ℕ) (bytes : List ℕ) → IsBytes (b ∷ bytes) → IsBytes bytes
 IsBytes-tail b bytes fits i = fits (suc i)
+
+pub IsBytes-front : (front back : List ℕ) → IsBytes (front ++ back) → IsBytes front
+IsBytes-front front back fits i =
+    elim (cases_lt i (length front)) [
+      | inl lt ↦ rw (← get_or-append front back 0 i lt) (fits i)
+      | inr le ↦ rw (get_or_past front i 0 le) (omega arith)
+    ]
+
+pub IsBytes-back : (front back : List ℕ) → IsBytes (front ++ back) → IsBytes back
+IsBytes-back front back fits i = rw (← get_or-append-add front back i 0) (fits (length front + i))
 
 -- ---- what was read from the front
 
