@@ -1,0 +1,6 @@
+pub mod Taken
+pub mod Numbers
+pub mod Heads
+pub mod Operands
+pub mod Proper
+pub mod Fronts
