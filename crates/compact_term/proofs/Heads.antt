@@ -38,8 +38,8 @@ reg_takes (first ∷ bytes) r rest fits e =
     elim (cases_eq (first % 8) 3) [
       | inl x ↦ Takes-cons first (tagged_takes regs.X SpellsReg (2 ^ 32) 3 first bytes r rest (λ n text is. is) (fits 0) x tail (rw (eq-eqb _ _ x) at e))
       | inr other ↦
-        let g = guard_other (first % 8) 4 Inner (made_of regs.Y (below_at (2 ^ 32) first bytes)) (r, rest) (rw (ne_eqb _ _ other) at e) in
-        Takes-cons first (tagged_takes regs.Y SpellsReg (2 ^ 32) 4 first bytes r rest (λ n text is. is) (fits 0) g.0 tail g.1)
+          let g = guard_other (first % 8) 4 Inner (made_of regs.Y (below_at (2 ^ 32) first bytes)) (r, rest) (rw (ne_eqb _ _ other) at e) in
+          Takes-cons first (tagged_takes regs.Y SpellsReg (2 ^ 32) 4 first bytes r rest (λ n text is. is) (fits 0) g.0 tail g.1)
     ]
 
 reg_again : (r : Reg) (text rest : List ℕ) → SpellsReg r text → reg_at (text ++ rest) ≡ Ok (r, rest)
@@ -101,8 +101,8 @@ extended_takes z bytes head rest fits e =
           | inr not_three ↦ elim (cases_eq z 4) [
             | inl four ↦ number_behind z 4 bytes plains.Lit head rest four (λ n text is. is) fits (rw (ne_eqb _ _ not_one, ne_eqb _ _ not_two, ne_eqb _ _ not_three, eq-eqb _ _ four) at e)
             | inr not_four ↦
-              let g = guard_other z 5 (Extended z) (reg_at bytes >>= λ r. made_of (λ n. heads.Plain (plains.Typed r.0 n)) (u_at r.1)) (head, rest) (rw (ne_eqb _ _ not_one, ne_eqb _ _ not_two, ne_eqb _ _ not_three, ne_eqb _ _ not_four) at e) in
-              typed_takes z bytes head rest g.0 fits g.1
+                let g = guard_other z 5 (Extended z) (reg_at bytes >>= λ r. made_of (λ n. heads.Plain (plains.Typed r.0 n)) (u_at r.1)) (head, rest) (rw (ne_eqb _ _ not_one, ne_eqb _ _ not_two, ne_eqb _ _ not_three, ne_eqb _ _ not_four) at e) in
+                typed_takes z bytes head rest g.0 fits g.1
           ]
         ]
       ]
@@ -118,7 +118,7 @@ z_takes first bytes head rest byte tag fits e =
     let more = extended_takes z.0.0 z.0.1 head rest number.fits z.2 in
     Takes-weaker
     (λ text parts. subst (λ (t : List ℕ). SpellsHead head (first ∷ t)) (sym parts.joined)
-      (parts.back_is (first ∷ parts.front) (subst (λ (t : ℕ). IsBelow (2 ^ 64) t z.0.0 (first ∷ parts.front)) tag parts.front_is)))
+    (parts.back_is (first ∷ parts.front) (subst (λ (t : ℕ). IsBelow (2 ^ 64) t z.0.0 (first ∷ parts.front)) tag parts.front_is)))
     (Takes-then number more)
 
 head_takes : (bytes : List ℕ) (head : Head) (rest : List ℕ) → IsBytes bytes → head_at bytes ≡ Ok (head, rest) → Takes (SpellsHead head) bytes rest
@@ -130,8 +130,8 @@ head_takes (first ∷ bytes) head rest fits e =
       | inl u ↦ Takes-cons first (tagged_takes (λ n. heads.Plain (plains.U n)) SpellsHead (2 ^ 64) 0 first bytes head rest (λ n text is. is) (fits 0) u tail (rw (eq-eqb _ _ u) at e))
       | inr not_u ↦ elim (cases_eq (first % 8) 1) [
         | inl i ↦
-          let m = made_ok heads.Plain (integer_at first bytes) head rest (rw (ne_eqb _ _ not_u, eq-eqb _ _ i) at e) in
-          Takes-cons first (subst (λ (h : Head). Takes (Behind (SpellsHead h) first) bytes rest) m.2 (integer_takes first bytes m.0 rest (fits 0) i tail m.1))
+            let m = made_ok heads.Plain (integer_at first bytes) head rest (rw (ne_eqb _ _ not_u, eq-eqb _ _ i) at e) in
+            Takes-cons first (subst (λ (h : Head). Takes (Behind (SpellsHead h) first) bytes rest) m.2 (integer_takes first bytes m.0 rest (fits 0) i tail m.1))
         | inr not_i ↦ elim (cases_eq (first % 8) 2) [
           | inl a ↦ Takes-cons first (tagged_takes (λ n. heads.Plain (plains.A n)) SpellsHead (2 ^ 32) 2 first bytes head rest (λ n text is. is) (fits 0) a tail (rw (ne_eqb _ _ not_u, ne_eqb _ _ not_i, eq-eqb _ _ a) at e))
           | inr not_a ↦ elim (cases_eq (first % 8) 3) [
@@ -143,8 +143,8 @@ head_takes (first ∷ bytes) head rest fits e =
                 | inr not_f ↦ elim (cases_eq (first % 8) 6) [
                   | inl h ↦ Takes-cons first (tagged_takes (λ n. heads.Plain (plains.H n)) SpellsHead (2 ^ 32) 6 first bytes head rest (λ n text is. is) (fits 0) h tail (rw (ne_eqb _ _ not_u, ne_eqb _ _ not_i, ne_eqb _ _ not_a, ne_eqb _ _ not_x, ne_eqb _ _ not_y, ne_eqb _ _ not_f, eq-eqb _ _ h) at e))
                   | inr not_h ↦
-                    let tag : first % 8 ≡ 7 = omega arith in
-                    Takes-cons first (z_takes first bytes head rest (fits 0) tag tail (rw (ne_eqb _ _ not_u, ne_eqb _ _ not_i, ne_eqb _ _ not_a, ne_eqb _ _ not_x, ne_eqb _ _ not_y, ne_eqb _ _ not_f, ne_eqb _ _ not_h) at e))
+                      let tag : first % 8 ≡ 7 = omega arith in
+                      Takes-cons first (z_takes first bytes head rest (fits 0) tag tail (rw (ne_eqb _ _ not_u, ne_eqb _ _ not_i, ne_eqb _ _ not_a, ne_eqb _ _ not_x, ne_eqb _ _ not_y, ne_eqb _ _ not_f, ne_eqb _ _ not_h) at e))
                 ]
               ]
             ]
@@ -190,8 +190,8 @@ head_again (heads.Plain (plains.Lit n)) text rest is = behind_z 4 (IsU n) (heads
 head_again (heads.Plain (plains.Typed r n)) text rest is =
     behind_z 5 (Then (SpellsReg r) (IsU n)) (heads.Plain (plains.Typed r n)) text rest is
     (λ back parts.
-      let grouped : back ++ rest ≡ parts.front ++ (parts.back ++ rest) = ap (λ (t : List ℕ). t ++ rest) parts.joined ∙ append_assoc parts.front parts.back rest in
-      rw (grouped, reg_agrees.again r parts.front (parts.back ++ rest) parts.front_is, u_agrees.again n parts.back rest parts.back_is) refl)
+    let grouped : back ++ rest ≡ parts.front ++ (parts.back ++ rest) = ap (λ (t : List ℕ). t ++ rest) parts.joined ∙ append_assoc parts.front parts.back rest in
+    rw (grouped, reg_agrees.again r parts.front (parts.back ++ rest) parts.front_is, u_agrees.again n parts.back rest parts.back_is) refl)
 head_again heads.List text rest is =
     below_head (2 ^ 64) 7 1 heads.List text rest (omega arith) is (λ first bytes read tag. rw (tag, read) refl)
 head_again heads.Alloc text rest is =

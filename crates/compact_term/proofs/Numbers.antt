@@ -148,14 +148,14 @@ length_takes (first ∷ bytes) n rest fits e =
       | inl tag ↦ elim (cases_lt first 248) [
         | inr wide ↦ let none = rw (eq-eqb _ _ tag, le-ltb _ _ wide) at e in absurd cc
         | inl below ↦
-          let step = rw (eq-eqb _ _ tag, lt-ltb _ _ below) at e in
-          let z = bind_ok (short_at first bytes) (λ (z : ℤ × List ℕ). natural (2 ^ 64) 0 z.0 >>= λ more. giving (more + 9) z.1) (n, rest) step in
-          let more = bind_ok (natural (2 ^ 64) 0 z.0.0) (λ (more : ℕ). giving (more + 9) z.0.1) (n, rest) z.2 in
-          let is = ok_is {E = OperandRefusal} (more.0 + 9, z.0.1) (n, rest) more.2 in
-          let value : z.0.0 ≡ pos more.0 = (natural_ok (2 ^ 64) 0 z.0.0 more.0 more.1).0 in
-          let took = short_takes first bytes z.0.0 z.0.1 below (IsBytes-tail first bytes fits) z.1 in
-          subst (λ (q : ℕ × List ℕ). Takes (IsCount q.0) (first ∷ bytes) q.1) is
-          (Takes-cons first (Takes-weaker (λ text short. record { more = more.0; is = refl; counts = subst (λ (t : ℕ). IsShort t (pos more.0) (first ∷ text)) tag (subst (λ (y : ℤ). IsShort (first % 8) y (first ∷ text)) value short) }) took))
+            let step = rw (eq-eqb _ _ tag, lt-ltb _ _ below) at e in
+            let z = bind_ok (short_at first bytes) (λ (z : ℤ × List ℕ). natural (2 ^ 64) 0 z.0 >>= λ more. giving (more + 9) z.1) (n, rest) step in
+            let more = bind_ok (natural (2 ^ 64) 0 z.0.0) (λ (more : ℕ). giving (more + 9) z.0.1) (n, rest) z.2 in
+            let is = ok_is {E = OperandRefusal} (more.0 + 9, z.0.1) (n, rest) more.2 in
+            let value : z.0.0 ≡ pos more.0 = (natural_ok (2 ^ 64) 0 z.0.0 more.0 more.1).0 in
+            let took = short_takes first bytes z.0.0 z.0.1 below (IsBytes-tail first bytes fits) z.1 in
+            subst (λ (q : ℕ × List ℕ). Takes (IsCount q.0) (first ∷ bytes) q.1) is
+            (Takes-cons first (Takes-weaker (λ text short. record { more = more.0; is = refl; counts = subst (λ (t : ℕ). IsShort t (pos more.0) (first ∷ text)) tag (subst (λ (y : ℤ). IsShort (first % 8) y (first ∷ text)) value short) }) took))
       ]
     ]
 
@@ -231,14 +231,14 @@ whole_takes first bytes z rest byte fits e =
     elim (cases_lt first 248) [
       | inl below ↦ Takes-weaker (λ text short. inl short) (short_takes first bytes z rest below fits (rw (lt-ltb _ _ below) at e))
       | inr high ↦
-        let step = rw (le-ltb _ _ high) at e in
-        let n = bind_ok (length_at bytes) (λ (n : ℕ × List ℕ). cond (ltb 16 n.0) (Err (Wide (first % 8))) (made_of (twos_complement n.0) (number_at Cut n.0 n.1))) (z, rest) step in
-        let g = guard_ok (ltb 16 n.0.0) (Wide (first % 8)) (made_of (twos_complement n.0.0) (number_at Cut n.0.0 n.0.1)) (z, rest) n.2 in
-        let few : n.0.0 ≤ 16 = ltb-false _ _ g.0 in
-        let m = made_ok (twos_complement n.0.0) (number_at Cut n.0.0 n.0.1) z rest g.1 in
-        let count = length_takes bytes n.0.0 n.0.1 fits n.1 in
-        let number = (number_agrees Cut n.0.0).takes n.0.1 m.0 rest count.fits m.1 in
-        Takes-weaker (λ text parts. inr (many_is first n.0.0 m.0 z text high byte few (sym m.2) parts)) (Takes-then count number)
+          let step = rw (le-ltb _ _ high) at e in
+          let n = bind_ok (length_at bytes) (λ (n : ℕ × List ℕ). cond (ltb 16 n.0) (Err (Wide (first % 8))) (made_of (twos_complement n.0) (number_at Cut n.0 n.1))) (z, rest) step in
+          let g = guard_ok (ltb 16 n.0.0) (Wide (first % 8)) (made_of (twos_complement n.0.0) (number_at Cut n.0.0 n.0.1)) (z, rest) n.2 in
+          let few : n.0.0 ≤ 16 = ltb-false _ _ g.0 in
+          let m = made_ok (twos_complement n.0.0) (number_at Cut n.0.0 n.0.1) z rest g.1 in
+          let count = length_takes bytes n.0.0 n.0.1 fits n.1 in
+          let number = (number_agrees Cut n.0.0).takes n.0.1 m.0 rest count.fits m.1 in
+          Takes-weaker (λ text parts. inr (many_is first n.0.0 m.0 z text high byte few (sym m.2) parts)) (Takes-then count number)
     ]
 
 pub record Whole_again (first tag : ℕ) (z : ℤ) (text rest : List ℕ) : Type 0 where
@@ -316,25 +316,25 @@ unfolding integer_at
 integer_takes first bytes p rest byte tag fits e =
     elim (cases_lt first 248) [
       | inl below ↦
-        let m = made_ok plains.I (short_at first bytes) p rest (rw (lt-ltb _ _ below) at e) in
-        let took = short_takes first bytes m.0 rest below fits m.1 in
-        subst (λ (q : Plain). Takes (Behind (SpellsPlain q) first) bytes rest) m.2
-        (Takes-weaker (λ text short. inl (subst (λ (t : ℕ). IsShort t m.0 (first ∷ text)) tag short)) took)
+          let m = made_ok plains.I (short_at first bytes) p rest (rw (lt-ltb _ _ below) at e) in
+          let took = short_takes first bytes m.0 rest below fits m.1 in
+          subst (λ (q : Plain). Takes (Behind (SpellsPlain q) first) bytes rest) m.2
+          (Takes-weaker (λ text short. inl (subst (λ (t : ℕ). IsShort t m.0 (first ∷ text)) tag short)) took)
       | inr high ↦
-        let n = bind_ok (length_at bytes) (λ (n : ℕ × List ℕ). cond (ltb 16 n.0) (made_of plains.Wide (bytes_at Cut n.0 n.1)) (made_of (λ x. plains.I (twos_complement n.0 x)) (number_at Cut n.0 n.1))) (p, rest) (rw (le-ltb _ _ high) at e) in
-        let count = length_takes bytes n.0.0 n.0.1 fits n.1 in
-        elim (cases_lt 16 n.0.0) [
-          | inl many ↦
-            let m = made_ok plains.Wide (bytes_at Cut n.0.0 n.0.1) p rest (rw (lt-ltb _ _ many) at n.2) in
-            let number = (bytes_agree Cut n.0.0).takes n.0.1 m.0 rest count.fits m.1 in
-            subst (λ (q : Plain). Takes (Behind (SpellsPlain q) first) bytes rest) m.2
-            (Takes-weaker (λ text parts. wide_is first n.0.0 m.0 text high byte tag many parts) (Takes-then count number))
-          | inr few ↦
-            let m = made_ok (λ (x : ℕ). plains.I (twos_complement n.0.0 x)) (number_at Cut n.0.0 n.0.1) p rest (rw (le-ltb _ _ few) at n.2) in
-            let number = (number_agrees Cut n.0.0).takes n.0.1 m.0 rest count.fits m.1 in
-            subst (λ (q : Plain). Takes (Behind (SpellsPlain q) first) bytes rest) m.2
-            (Takes-weaker (λ text parts. inr (subst (λ (t : ℕ). InManyBytes t (twos_complement n.0.0 m.0) (first ∷ text)) tag (many_is first n.0.0 m.0 (twos_complement n.0.0 m.0) text high byte few refl parts))) (Takes-then count number))
-        ]
+          let n = bind_ok (length_at bytes) (λ (n : ℕ × List ℕ). cond (ltb 16 n.0) (made_of plains.Wide (bytes_at Cut n.0 n.1)) (made_of (λ x. plains.I (twos_complement n.0 x)) (number_at Cut n.0 n.1))) (p, rest) (rw (le-ltb _ _ high) at e) in
+          let count = length_takes bytes n.0.0 n.0.1 fits n.1 in
+          elim (cases_lt 16 n.0.0) [
+            | inl many ↦
+                let m = made_ok plains.Wide (bytes_at Cut n.0.0 n.0.1) p rest (rw (lt-ltb _ _ many) at n.2) in
+                let number = (bytes_agree Cut n.0.0).takes n.0.1 m.0 rest count.fits m.1 in
+                subst (λ (q : Plain). Takes (Behind (SpellsPlain q) first) bytes rest) m.2
+                (Takes-weaker (λ text parts. wide_is first n.0.0 m.0 text high byte tag many parts) (Takes-then count number))
+            | inr few ↦
+                let m = made_ok (λ (x : ℕ). plains.I (twos_complement n.0.0 x)) (number_at Cut n.0.0 n.0.1) p rest (rw (le-ltb _ _ few) at n.2) in
+                let number = (number_agrees Cut n.0.0).takes n.0.1 m.0 rest count.fits m.1 in
+                subst (λ (q : Plain). Takes (Behind (SpellsPlain q) first) bytes rest) m.2
+                (Takes-weaker (λ text parts. inr (subst (λ (t : ℕ). InManyBytes t (twos_complement n.0.0 m.0) (first ∷ text)) tag (many_is first n.0.0 m.0 (twos_complement n.0.0 m.0) text high byte few refl parts))) (Takes-then count number))
+          ]
     ]
 
 pub record Integer_again (first : ℕ) (p : Plain) (text rest : List ℕ) : Type 0 where

@@ -34,10 +34,10 @@ unfoldable pub length_at : List ℕ → Result (ℕ × List ℕ) OperandRefusal
 length_at bytes = do
   first ← byte_at Cut bytes
   if first.0 % 8 == 0
-    then (if nat_lt first.0 248
+      then (if nat_lt first.0 248
       then (short_at first.0 first.1 >>= λ z. natural (2 ^ 64) 0 z.0 >>= λ more. giving (more + 9) z.1)
       else Err (Wide 0))
-    else Err Inner
+      else Err Inner
 
 -- a number of up to 16 bytes; a longer one is refused before its bytes are looked at
 unfoldable pub whole_at : ℕ → List ℕ → Result (ℤ × List ℕ) OperandRefusal

@@ -7,5 +7,4 @@ ghost use Rattle.compact_term.specs.Spelling.{Spells};
 /// No spelling of an operand begins another one, and each is of one operand.
 pub fn one_form()
     ensures { (a b x y : List ℕ) (o p : Operand) → Spells o a → Spells p b → a ++ x ≡ b ++ y → (a ≡ b) × (o ≡ p) }
-{
-}
+{}

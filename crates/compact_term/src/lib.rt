@@ -13,3 +13,6 @@ pub use list::{PairList, PlainList};
 pub use operand::{Operand, Plain, Reg};
 pub use reader::read_operand;
 pub use refusal::OperandRefusal;
+
+#[cfg(test)]
+mod tests;
