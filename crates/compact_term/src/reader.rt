@@ -211,7 +211,8 @@ pub fn read_operand(alloc: Global, cur: &mut Cursor<'_>) -> Result<Operand, Oper
     ensures refused { IfErr result (λ e. Fails OperandRefusal.NoMemory e (operand_at cur.old.rest)) }
     ensures unmoved { OnErr result (cur.new ≡ cur.old) }
 {
-    let (operand, len) = front(alloc, cur.rest())?;
+    let bytes = cur.rest();
+    let (operand, len) = front(alloc, bytes)?;
     let _ = cur.take(len);
     Ok(operand)
 }
