@@ -1,6 +1,6 @@
 -- What was read from the front of bytes.
-use Rattle.std.proofs.Common.{◌≡◌, ◌⊎◌, ℕ, ◌-◌, ◌≤◌, List, ◌++◌, length, Result, Ok, Err, refl, sym, ap, subst, ◌∙◌, arith, length-append, ◌+◌, inl, inr}
-use Rattle.std.proofs.lemmas.List.{append_cancel_right}
+use Rattle.std.proofs.Common.{◌≡◌, ◌⊎◌, ℕ, ◌-◌, ◌≤◌, List, ◌++◌, length, drop, Result, Ok, Err, refl, sym, ap, subst, ◌∙◌, arith, length-append, ◌+◌, inl, inr}
+use Rattle.std.proofs.lemmas.List.{append_cancel_right, drop_at}
 use Rattle.bk_base.specs.Place.{Place}
 use Rattle.bk_codec.specs.Reading.{Fails}
 use Rattle.bk_codec.specs.Spelling.{IsBytes}
@@ -19,6 +19,7 @@ pub record WasRead (o : Operand) (bytes rest : List ℕ) : Type 0 where
   pub begins : Begins o (length bytes - length rest) bytes
   pub proper : IsOperand o
   pub shorter : length rest ≤ length bytes
+  pub left : rest ≡ drop (length bytes - length rest) bytes
 
 pub was_read : (bytes : List ℕ) (o : Operand) (rest : List ℕ) → IsBytes bytes → operand_at bytes ≡ Ok (o, rest) → WasRead o bytes rest
 was_read bytes o rest fits e =
@@ -28,6 +29,7 @@ was_read bytes o rest fits e =
       begins = record { text = took.text; rest = rest; spelt = took.is; size = omega arith; joined = took.joined };
       proper = operand_proper o took.text (IsBytes-front took.text rest (subst IsBytes took.joined fits)) took.is;
       shorter = omega arith;
+      left = sym (ap (drop (length bytes - length rest)) took.joined ∙ drop_at took.text rest (length bytes - length rest) (omega arith));
     }
 
 -- a front that is spelled is the one that was read

@@ -1,6 +1,6 @@
 //! Reading an operand.
 
-ghost use Rattle.std.specs.Prelude.{◌≡◌, ◌⊎◌, ℕ, ◌<◌, ◌≤◌, ◌^◌, ◌%◌, ◌++◌, List, length, Ok, Err, IfOk, IfErr, OnErr};
+ghost use Rattle.std.specs.Prelude.{◌≡◌, ◌⊎◌, ℕ, ◌<◌, ◌≤◌, ◌^◌, ◌%◌, ◌++◌, List, length, drop, Ok, Err, IfOk, IfErr, OnErr};
 ghost use Rattle.bk_codec.specs.Reading.{Gives, Fails, many_at};
 ghost use Rattle.compact_term.specs.declared.operand.Operand.{Operand};
 ghost use Rattle.compact_term.specs.Spelling.{Spells};
@@ -183,6 +183,7 @@ fn whole_operand(alloc: Global, cur: &mut Cursor<'_>) -> Result<Operand, Operand
 fn front(alloc: Global, bytes: &[u8]) -> Result<(Operand, usize), OperandRefusal>
     ensures found { IfOk result (λ r. Begins r.0 r.1 bytes.now) }
     ensures proper { IfOk result (λ r. IsOperand r.0) }
+    ensures read { IfOk result (λ r. operand_at bytes.now ≡ Ok (r.0, drop r.1 bytes.now)) }
     ensures refused { IfErr result (λ e. Fails OperandRefusal.NoMemory e (operand_at bytes.now)) }
 {
     let mut cur = Cursor::new(bytes);
@@ -207,8 +208,8 @@ pub fn read_operand(alloc: Global, cur: &mut Cursor<'_>) -> Result<Operand, Oper
     ensures only { (o : Operand) (text more : List ℕ) → Spells o text → cur.old.rest ≡ text ++ more
         → (result ≡ Ok o) ⊎ (result ≡ Err OperandRefusal.NoMemory) }
 
-    // Which refusal it is, and what it leaves.
-    ensures refused { IfErr result (λ e. Fails OperandRefusal.NoMemory e (operand_at cur.old.rest)) }
+    // What it reads from the left, which refusal it is, and what that leaves.
+    ensures read { Gives OperandRefusal.NoMemory (λ o. o) cur.new.rest result (operand_at cur.old.rest) }
     ensures unmoved { OnErr result (cur.new ≡ cur.old) }
 {
     let bytes = cur.rest();

@@ -14,3 +14,7 @@ returns-clause-found c = rw c.rest.ensures (read c).begins
 
 pub returns-clause-proper : goal.returns-clause-proper
 returns-clause-proper c = (read c).proper
+
+pub returns-clause-read : goal.returns-clause-read
+returns-clause-read c =
+    rw (c.rest.ensures, ← (read c).left) (rw c.new-cur.ensures.rest at c.in_ok-operand.ensures)
