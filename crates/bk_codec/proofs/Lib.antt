@@ -3,3 +3,4 @@ pub mod Numbers
 pub mod Agreement
 pub mod Loop
 pub mod ToTheEnd
+pub mod Keeps
