@@ -4,3 +4,4 @@ pub mod Heads
 pub mod Operands
 pub mod Proper
 pub mod Fronts
+pub mod Keeping
