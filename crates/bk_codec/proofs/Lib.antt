@@ -4,3 +4,4 @@ pub mod Agreement
 pub mod Loop
 pub mod ToTheEnd
 pub mod Keeps
+pub mod Stops
