@@ -95,6 +95,14 @@ many_again p R agrees (x ∷ xs) text rest is =
     let others : many_at p (length xs) (is.back ++ rest) ≡ Ok (xs, rest) = many_again p R agrees xs is.back rest is.back_is in
     rw (whole, first, others) refl
 
+pub many_at-length : {E A : Type 0} (p : List ℕ → Result (A × List ℕ) E) (n : ℕ) (bytes : List ℕ) (xs : List A) (rest : List ℕ) → many_at p n bytes ≡ Ok (xs, rest) → length xs ≡ n
+many_at-length {E} p zero bytes xs rest e = sym (ap (λ (q : List _ × List ℕ). length q.0) (ok_is {E = E} ([], bytes) (xs, rest) e))
+many_at-length p (suc n) bytes xs rest e =
+    let b = bind_ok (p bytes) (λ x. made_of (λ ys. x.0 ∷ ys) (many_at p n x.1)) (xs, rest) e in
+    let m = made_ok (λ ys. b.0.0 ∷ ys) (many_at p n b.0.1) xs rest b.2 in
+    let others : length m.0 ≡ n = many_at-length p n b.0.1 m.0 rest m.1 in
+    sym (ap length m.2) ∙ ap suc others
+
 -- as many values as a count says
 pub record AgreesOnMany {E A : Type 0} (p : List ℕ → Result (A × List ℕ) E) (R : A → List ℕ → Type 0) : Type 0 where
   pub takes : (n : ℕ) (bytes : List ℕ) (xs : List A) (rest : List ℕ) → IsBytes bytes → many_at p n bytes ≡ Ok (xs, rest) → (length xs ≡ n) × Takes (SpellsMany R xs) bytes rest

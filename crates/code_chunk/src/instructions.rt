@@ -115,7 +115,7 @@ pub(crate) fn instructions(alloc: Global, cur: &mut Cursor<'_>) -> Result<InstrL
     ensures { GivesAll CodeRefusal.NoMemory (λ is. is) result (whole_of (instr_at (end_of cur.old)) cur.old.rest) }
 {
     let mut list = InstrList::new(alloc);
-    while !cur.is_empty() {
+    'instrs: while !cur.is_empty() {
         let instr = instruction(alloc, cur)?;
         list.push(instr)?;
     }
