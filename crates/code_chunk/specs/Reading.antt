@@ -2,7 +2,7 @@
 use Rattle.std.specs.Prelude.{ℕ, suc, ◌+◌, ◌-◌, Option, Some, None, List, [], ◌∷◌, length, take, drop, ◌==◌, nat_lt, if◌then◌else◌, Result, Ok, Err}
 use Rattle.byteorder.specs.Endian.{big_number}
 use Rattle.bk_base.specs.Place.{Place}
-use Rattle.bk_codec.specs.Reading.{◌>>=◌, made_of, bytes_at, number_at, many_at, whole_of}
+use Rattle.bk_codec.specs.Reading.{◌>>=◌, giving, made_of, bytes_at, number_at, many_at, whole_of}
 use Rattle.compact_term.specs.declared.operand.Operand.{Operand}
 use Rattle.compact_term.specs.declared.refusal.OperandRefusal.{OperandRefusal}
 use Rattle.compact_term.specs.Reading.{operand_at}
@@ -35,16 +35,25 @@ unfoldable pub instr_at : ℕ → List ℕ → Result (Instruction × List ℕ) 
 instr_at size [] = Err refusals.Header
 instr_at size (op ∷ bytes) = instr_with size op (arity_of op) bytes
 
--- the sub-header says its size before it, and 0 in its first word
-unfoldable pub code_at : List ℕ → Result CodeVal CodeRefusal
-code_at bytes = do
+-- the bytes of the sub-header, before which stands their number, with 0 in the first word
+unfoldable pub header_at : List ℕ → Result (List ℕ × List ℕ) CodeRefusal
+header_at bytes = do
   size ← number_at refusals.Header 4 bytes
   header ← if nat_lt size.0 16 then Err refusals.Header else bytes_at refusals.Header size.0 size.1
-  instrs ← if big_number 4 header.0 == 0 then whole_of (instr_at (length bytes)) header.1 else Err refusals.Header
-  Ok (record {
-    extra = drop 16 header.0;
-    max_op = big_number 4 (drop 4 header.0);
-    labels = big_number 4 (drop 8 header.0);
-    functions = big_number 4 (drop 12 header.0);
-    instrs = instrs;
-  })
+  if big_number 4 header.0 == 0 then giving header.0 header.1 else Err refusals.Header
+
+-- what the words of a sub-header say, its extra bytes, and the instructions
+abbrev pub code_of : List ℕ → List Instruction → CodeVal
+code_of header instrs = record {
+  extra = drop 16 header;
+  max_op = big_number 4 (drop 4 header);
+  labels = big_number 4 (drop 8 header);
+  functions = big_number 4 (drop 12 header);
+  instrs = instrs;
+}
+
+unfoldable pub code_at : List ℕ → Result CodeVal CodeRefusal
+code_at bytes = do
+  header ← header_at bytes
+  instrs ← whole_of (instr_at (length bytes)) header.1
+  Ok (code_of header.0 instrs)

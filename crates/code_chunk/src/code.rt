@@ -1,9 +1,9 @@
 //! The value of the chunk.
 
-ghost use Rattle.std.specs.Prelude.{◌≡◌, ◌⊎◌, IfOk, IfErr, Ok, Err};
-ghost use Rattle.bk_codec.specs.Reading.{GivesAll};
+ghost use Rattle.std.specs.Prelude.{◌≡◌, ◌≤◌, ◌⊎◌, length, IfOk, IfErr, Ok, Err};
+ghost use Rattle.bk_codec.specs.Reading.{Gives, GivesAll};
 ghost use Rattle.code_chunk.specs.declared.code.CodeVal.{CodeVal};
-ghost use Rattle.code_chunk.specs.Reading.{code_at};
+ghost use Rattle.code_chunk.specs.Reading.{end_of, header_at, code_at};
 
 use crate::instructions::{InstrList, instructions};
 use crate::refusal::CodeRefusal;
@@ -28,11 +28,13 @@ pub struct CodeVal {
     pub instrs: InstrList,
 }
 
-#[tactic(auto, unfolding(crate::specs::Reading::code_at))]
-pub fn read_code(alloc: Global, s: &[u8]) -> Result<CodeVal, CodeRefusal>
-    ensures { GivesAll CodeRefusal.NoMemory (λ c. c) result (code_at s.now) }
+// The bytes of the sub-header.
+#[tactic(auto, unfolding(crate::specs::Reading::header_at))]
+fn sub_header<'a>(cur: &mut Cursor<'a>) -> Result<&'a [u8], CodeRefusal>
+    ensures read { Gives CodeRefusal.NoMemory (λ h. h.now) cur.new.rest result (header_at cur.old.rest) }
+    ensures least { IfOk result (λ h. 16 ≤ length h.now) }
+    ensures end { end_of cur.new ≡ end_of cur.old }
 {
-    let mut cur = Cursor::new(s);
     let size = cur.be32().ok_or(CodeRefusal::Header)?;
     if size < LEAST_HEADER {
         return Err(CodeRefusal::Header);
@@ -41,6 +43,15 @@ pub fn read_code(alloc: Global, s: &[u8]) -> Result<CodeVal, CodeRefusal>
     if BigEndian::read_u32(header) != 0 {
         return Err(CodeRefusal::Header);
     }
+    Ok(header)
+}
+
+#[tactic(auto, unfolding(crate::specs::Reading::code_at))]
+pub fn read_code(alloc: Global, s: &[u8]) -> Result<CodeVal, CodeRefusal>
+    ensures { GivesAll CodeRefusal.NoMemory (λ c. c) result (code_at s.now) }
+{
+    let mut cur = Cursor::new(s);
+    let header = sub_header(&mut cur)?;
     let instrs = instructions(alloc, &mut cur)?;
     Ok(CodeVal {
         extra: ByteList::from_slice(alloc, &header[16..])?,
