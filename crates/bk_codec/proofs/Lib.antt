@@ -5,3 +5,4 @@ pub mod Loop
 pub mod ToTheEnd
 pub mod Keeps
 pub mod Stops
+pub mod Never
