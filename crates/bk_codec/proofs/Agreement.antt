@@ -1,8 +1,9 @@
 -- When a reading and a spelling agree, and what follows.
-use Rattle.std.proofs.Common.{◌≡◌, ℕ, zero, suc, ◌+◌, ◌^◌, ◌<◌, ◌≤◌, false, ltb, List, [], ◌∷◌, ◌++◌, length, take, drop, Result, Ok, refl, sym, ap, subst, ◌∙◌, append_assoc, arith, inl, inr, length-append}
+use Rattle.std.proofs.Common.{◌≡◌, ℕ, zero, suc, ◌+◌, ◌^◌, ◌<◌, ◌≤◌, false, ltb, List, [], ◌∷◌, ◌++◌, length, take, drop, get_or, Result, Ok, refl, sym, ap, subst, ◌∙◌, append_assoc, arith, inl, inr, length-append}
 use Rattle.std.proofs.lemmas.Bool.{cases_lt, ltb-false, le-ltb}
-use Rattle.std.proofs.lemmas.List.{take_at, drop_at, take-append-drop, length-take, get_or-drop, get_or-take, get_or_past}
-use Rattle.byteorder.specs.Endian.{big_number, big_bytes}
+use Rattle.std.proofs.lemmas.List.{take_at, drop_at, take-append-drop, length-take, get_or-drop, get_or-take, get_or-append-add, get_or_past}
+use Rattle.std.proofs.Math.ListN.{get_or-append}
+use Rattle.byteorder.specs.Endian.{big_number, big_bytes, big_from}
 use Rattle.byteorder.specs.Numbers.{big_from-lt, big_number-reads_back, length-bytes_high_first}
 use Rattle.bk_codec.specs.Reading.{giving, made_of, byte_at, bytes_at, number_at, many_at}
 use Rattle.bk_codec.specs.Spelling.{IsBytes, Then, SpellsMany, SpellsNumber}
@@ -23,6 +24,16 @@ IsBytes-take n bytes fits i =
 
 pub IsBytes-tail : (b : ℕ) (bytes : List ℕ) → IsBytes (b ∷ bytes) → IsBytes bytes
 IsBytes-tail b bytes fits i = fits (suc i)
+
+pub IsBytes-front : (front back : List ℕ) → IsBytes (front ++ back) → IsBytes front
+IsBytes-front front back fits i =
+    elim (cases_lt i (length front)) [
+      | inl lt ↦ rw (← get_or-append front back 0 i lt) (fits i)
+      | inr le ↦ rw (get_or_past front i 0 le) (omega arith)
+    ]
+
+pub IsBytes-back : (front back : List ℕ) → IsBytes (front ++ back) → IsBytes back
+IsBytes-back front back fits i = rw (← get_or-append-add front back i 0) (fits (length front + i))
 
 -- ---- what was read from the front
 
@@ -83,6 +94,14 @@ many_again p R agrees (x ∷ xs) text rest is =
     let first : p (is.front ++ (is.back ++ rest)) ≡ Ok (x, is.back ++ rest) = agrees.again x is.front (is.back ++ rest) is.front_is in
     let others : many_at p (length xs) (is.back ++ rest) ≡ Ok (xs, rest) = many_again p R agrees xs is.back rest is.back_is in
     rw (whole, first, others) refl
+
+pub many_at-length : {E A : Type 0} (p : List ℕ → Result (A × List ℕ) E) (n : ℕ) (bytes : List ℕ) (xs : List A) (rest : List ℕ) → many_at p n bytes ≡ Ok (xs, rest) → length xs ≡ n
+many_at-length {E} p zero bytes xs rest e = sym (ap (λ (q : List _ × List ℕ). length q.0) (ok_is {E = E} ([], bytes) (xs, rest) e))
+many_at-length p (suc n) bytes xs rest e =
+    let b = bind_ok (p bytes) (λ x. made_of (λ ys. x.0 ∷ ys) (many_at p n x.1)) (xs, rest) e in
+    let m = made_ok (λ ys. b.0.0 ∷ ys) (many_at p n b.0.1) xs rest b.2 in
+    let others : length m.0 ≡ n = many_at-length p n b.0.1 m.0 rest m.1 in
+    sym (ap length m.2) ∙ ap suc others
 
 -- as many values as a count says
 pub record AgreesOnMany {E A : Type 0} (p : List ℕ → Result (A × List ℕ) E) (R : A → List ℕ → Type 0) : Type 0 where

@@ -7,3 +7,6 @@ pub mod Counted
 pub mod Ended
 pub mod Refused
 pub mod ToTheEnd
+pub mod Keeps
+pub mod Stops
+pub mod Never

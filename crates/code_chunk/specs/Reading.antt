@@ -1,0 +1,59 @@
+-- How the payload of a code chunk is read from the left, and which refusal comes first.
+use Rattle.std.specs.Prelude.{ℕ, suc, ◌+◌, ◌-◌, Option, Some, None, List, [], ◌∷◌, length, take, drop, ◌==◌, nat_lt, if◌then◌else◌, Result, Ok, Err}
+use Rattle.byteorder.specs.Endian.{big_number}
+use Rattle.bk_base.specs.Place.{Place}
+use Rattle.bk_codec.specs.Reading.{◌>>=◌, giving, made_of, bytes_at, number_at, many_at, whole_of}
+use Rattle.compact_term.specs.declared.operand.Operand.{Operand}
+use Rattle.compact_term.specs.declared.refusal.OperandRefusal.{OperandRefusal}
+use Rattle.compact_term.specs.Reading.{operand_at}
+use Rattle.op_table.specs.Table.{arity_of}
+use Rattle.op_table.specs.Instruction.{Instruction}
+use Rattle.code_chunk.specs.declared.code.CodeVal.{CodeVal}
+use Rattle.code_chunk.specs.declared.refusal.CodeRefusal.{CodeRefusal}
+use Rattle.code_chunk.specs.declared.refusal.CodeRefusal.TheVariants as refusals
+
+-- the offset of the end of what is read
+abbrev pub end_of : Place → ℕ
+end_of p = p.offset + length p.rest
+
+-- a refused operand, with its offset
+abbrev pub located : {X : Type 0} → ℕ → Result X OperandRefusal → Result X CodeRefusal
+located at (Ok x) = Ok x
+located at (Err why) = Err (refusals.Operand at why)
+
+-- an operand in a payload of this size
+abbrev pub operand_in : ℕ → List ℕ → Result (Operand × List ℕ) CodeRefusal
+operand_in size bytes = located (size - length bytes) (operand_at bytes)
+
+-- behind an opcode, its operands
+abbrev pub instr_with : ℕ → ℕ → Option ℕ → List ℕ → Result (Instruction × List ℕ) CodeRefusal
+instr_with size op (Some arity) bytes = made_of (λ operands. record { op = op; operands = operands }) (many_at (operand_in size) arity bytes)
+instr_with size op None bytes = Err (refusals.Opcode (size - suc (length bytes)) op)
+
+-- an instruction in a payload of this size; there is none without a byte
+unfoldable pub instr_at : ℕ → List ℕ → Result (Instruction × List ℕ) CodeRefusal
+instr_at size [] = Err refusals.Header
+instr_at size (op ∷ bytes) = instr_with size op (arity_of op) bytes
+
+-- the bytes of the sub-header, before which stands their number, with 0 in the first word
+unfoldable pub header_at : List ℕ → Result (List ℕ × List ℕ) CodeRefusal
+header_at bytes = do
+  size ← number_at refusals.Header 4 bytes
+  header ← if nat_lt size.0 16 then Err refusals.Header else bytes_at refusals.Header size.0 size.1
+  if big_number 4 header.0 == 0 then giving header.0 header.1 else Err refusals.Header
+
+-- what the words of a sub-header say, its extra bytes, and the instructions
+abbrev pub code_of : List ℕ → List Instruction → CodeVal
+code_of header instrs = record {
+  extra = drop 16 header;
+  max_op = big_number 4 (drop 4 header);
+  labels = big_number 4 (drop 8 header);
+  functions = big_number 4 (drop 12 header);
+  instrs = instrs;
+}
+
+unfoldable pub code_at : List ℕ → Result CodeVal CodeRefusal
+code_at bytes = do
+  header ← header_at bytes
+  instrs ← whole_of (instr_at (length bytes)) header.1
+  Ok (code_of header.0 instrs)

@@ -1,0 +1,63 @@
+//! The value of the chunk.
+
+ghost use Rattle.std.specs.Prelude.{◌≡◌, ◌≤◌, ◌⊎◌, length, IfOk, IfErr, Ok, Err};
+ghost use Rattle.bk_codec.specs.Reading.{Gives, GivesAll};
+ghost use Rattle.code_chunk.specs.declared.code.CodeVal.{CodeVal};
+ghost use Rattle.code_chunk.specs.Reading.{end_of, header_at, code_at};
+
+use crate::instructions::{InstrList, instructions};
+use crate::refusal::CodeRefusal;
+use bk_base::{ByteList, Cursor};
+use byteorder::{BigEndian, ByteOrder};
+use std::alloc::Global;
+
+// The bytes of the four words of the sub-header, which may be longer.
+const LEAST_HEADER: u32 = 16;
+
+/// What the chunk holds.
+#[derive(Debug, Drop)]
+pub struct CodeVal {
+    /// The bytes of the sub-header behind its four words.
+    pub extra: ByteList,
+    /// The highest opcode that is said to be used. It is not compared with the instructions.
+    pub max_op: u32,
+    /// How many labels there are said to be.
+    pub labels: u32,
+    /// How many functions there are said to be.
+    pub functions: u32,
+    pub instrs: InstrList,
+}
+
+// The bytes of the sub-header.
+#[tactic(auto, unfolding(crate::specs::Reading::header_at))]
+fn sub_header<'a>(cur: &mut Cursor<'a>) -> Result<&'a [u8], CodeRefusal>
+    ensures read { Gives CodeRefusal.NoMemory (λ h. h.now) cur.new.rest result (header_at cur.old.rest) }
+    ensures least { IfOk result (λ h. 16 ≤ length h.now) }
+    ensures end { end_of cur.new ≡ end_of cur.old }
+{
+    let size = cur.be32().ok_or(CodeRefusal::Header)?;
+    if size < LEAST_HEADER {
+        return Err(CodeRefusal::Header);
+    }
+    let header = cur.take(size as usize).ok_or(CodeRefusal::Header)?;
+    if BigEndian::read_u32(header) != 0 {
+        return Err(CodeRefusal::Header);
+    }
+    Ok(header)
+}
+
+#[tactic(auto, unfolding(crate::specs::Reading::code_at))]
+pub fn read_code(alloc: Global, s: &[u8]) -> Result<CodeVal, CodeRefusal>
+    ensures { GivesAll CodeRefusal.NoMemory (λ c. c) result (code_at s.now) }
+{
+    let mut cur = Cursor::new(s);
+    let header = sub_header(&mut cur)?;
+    let instrs = instructions(alloc, &mut cur)?;
+    Ok(CodeVal {
+        extra: ByteList::from_slice(alloc, &header[16..])?,
+        max_op: BigEndian::read_u32(&header[4..]),
+        labels: BigEndian::read_u32(&header[8..]),
+        functions: BigEndian::read_u32(&header[12..]),
+        instrs,
+    })
+}

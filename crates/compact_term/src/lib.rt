@@ -1,0 +1,18 @@
+//! The operands of instructions in their compact form, which BEAM files have in `Code` and elsewhere.
+#![tactic(auto)]
+
+mod laws;
+mod list;
+mod number;
+mod operand;
+mod reader;
+mod refusal;
+
+pub use laws::one_form;
+pub use list::{PairList, PlainList};
+pub use operand::{Operand, Plain, Reg};
+pub use reader::read_operand;
+pub use refusal::OperandRefusal;
+
+#[cfg(test)]
+mod tests;

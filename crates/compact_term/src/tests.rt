@@ -1,0 +1,102 @@
+use super::*;
+use bk_base::{Cursor, NoMemory};
+use std::test::Fail;
+
+// Each spelling with what it reads as, which takes all of its bytes, or its refusal, which moves nothing.
+const OPERANDS: [(&[u8], &str); 25] = [
+    (&[0xf1], "Ok(One(I(15)))"),
+    (&[0x09, 0x10], "Ok(One(I(16)))"),
+    (&[0xe9, 0xff], "Ok(One(I(2047)))"),
+    (&[0x19, 0x08, 0x00], "Ok(One(I(2048)))"),
+    (&[0x19, 0xff, 0xff], "Ok(One(I(-1)))"),
+    (&[0x19, 0x80, 0x00], "Ok(One(I(-32768)))"),
+    (&[0x39, 0xff, 0x7f, 0xff], "Ok(One(I(-32769)))"),
+    (&[0x10], "Ok(One(U(1)))"),
+    (&[0x02], "Ok(One(A(0)))"),
+    (&[0x03], "Ok(One(X(0)))"),
+    (&[0x0b, 0x01], "Ok(One(X(1)))"),
+    (&[0x04], "Ok(One(Y(0)))"),
+    (&[0x35], "Ok(One(F(3)))"),
+    (&[0x0e, 0x41], "Ok(One(H(65)))"),
+    (&[0x27, 0x00], "Ok(One(Fr(0)))"),
+    (&[0x47, 0x70], "Ok(One(Lit(7)))"),
+    (&[0x57, 0x03, 0x70], "Ok(One(Typed(X(0), 7)))"),
+    (&[], "Err(Cut)"),
+    (&[0x07], "Err(Extended { value: 0 })"),
+    (&[0x18, 0xff, 0xff], "Err(Negative { tag: 0 })"),
+    (&[0xf8, 0x80], "Err(Wide { tag: 0 })"),
+    (&[0x17, 0x10, 0x17, 0x00], "Err(Nested)"),
+    (&[0x47, 0x01], "Err(Inner)"),
+    (&[0x57, 0x02], "Err(Inner)"),
+    // a list of 2 ^ 64 - 1 members, none of which is there
+    (
+        &[
+            0x17, 0xf8, 0x00, 0x00, 0xff, 0xff, 0xff, 0xff, 0xff, 0xff, 0xff, 0xff,
+        ],
+        "Err(Cut)",
+    ),
+];
+
+#[test]
+fn operands_are_read(rt: HostRuntime) -> Result<(), Fail> {
+    for (bytes, expected) in OPERANDS {
+        let mut cursor = Cursor::new(bytes);
+        let read = read_operand(rt.alloc(), &mut cursor);
+        let text = format!(in rt.alloc(); "{read:?}")?;
+        assert_eq!(rt; text.as_str(), expected);
+        let end = if read.is_ok() { bytes.len() } else { 0 };
+        assert_eq!(rt; cursor.at(), end);
+    }
+    Ok(())
+}
+
+#[test]
+fn operands_with_parts_are_read(rt: HostRuntime) -> Result<(), Fail> {
+    one_form();
+    let wide: [u8; 19] = [
+        0xf9, 0x80, 1, 2, 3, 4, 5, 6, 7, 8, 9, 10, 11, 12, 13, 14, 15, 16, 17,
+    ];
+    match read_operand(rt.alloc(), &mut Cursor::new(&wide))? {
+        Operand::One(Plain::Wide(bytes)) => assert_eq!(rt; bytes.as_slice(), &wide[2..]),
+        _ => return Err("no wide integer".into()),
+    }
+    match read_operand(rt.alloc(), &mut Cursor::new(&[0x17, 0x20, 0x12, 0x25]))? {
+        Operand::List(list) => {
+            assert_eq!(rt; (list.len(), list.is_empty()), (2, false));
+            assert!(rt; matches!(list.get(0), Some(Plain::A(1))));
+            assert!(rt; matches!(list.as_slice(), [_, Plain::F(2)]));
+        }
+        _ => return Err("no list".into()),
+    }
+    match read_operand(
+        rt.alloc(),
+        &mut Cursor::new(&[0x37, 0x20, 0x00, 0x50, 0x20, 0x10]),
+    )? {
+        Operand::Alloc(pairs) => {
+            assert_eq!(rt; (pairs.len(), pairs.is_empty()), (2, false));
+            assert!(rt; matches!(pairs.get(0), Some((0, 5))));
+            assert_eq!(rt; pairs.as_slice(), [(0, 5), (2, 1)].as_slice());
+        }
+        _ => return Err("no allocation list".into()),
+    }
+    Ok(())
+}
+
+#[test]
+fn lists_hold_what_was_pushed(rt: HostRuntime) -> Result<(), Fail> {
+    let mut members = PlainList::new(rt.alloc());
+    members.push(Plain::default())?;
+    assert!(rt; matches!(members.get(0), Some(Plain::U(0))) && members.get(1).is_none());
+    let mut pairs = PairList::new(rt.alloc());
+    pairs.push((1, 2))?;
+    assert!(rt; pairs.get(0) == Some(&(1, 2)) && pairs.get(1).is_none());
+    assert!(rt; matches!(Operand::default(), Operand::One(Plain::U(0))));
+    let refusal = OperandRefusal::from(NoMemory);
+    assert!(rt; refusal == OperandRefusal::NoMemory);
+    let text = format!(in rt.alloc(); "{refusal}, {}", OperandRefusal::Wide { tag: 2 })?;
+    assert_eq!(rt;
+        text.as_str(),
+        "out of memory, the number is too wide for tag 2"
+    );
+    Ok(())
+}

@@ -1,0 +1,44 @@
+//! The table of opcodes.
+
+ghost use Rattle.std.specs.Prelude.{◌≡◌, ◌⊎◌, ◌<◌, ◌↔◌, IsNone, option_copied, option_map, map, length};
+ghost use Rattle.op_table.specs.Table.{table, row_with, row_of};
+
+use crate::rows::ROWS;
+
+/// What is done with an opcode beyond listing it.
+#[derive(Clone, Copy, Debug, PartialEq, Eq)]
+pub enum Profile {
+    /// It is validated.
+    Typed,
+    /// It matches binaries, and is not validated yet.
+    Later,
+    /// It is superseded, or outside what is validated.
+    Out,
+}
+
+/// An opcode with its name and the number of its operands.
+#[derive(Clone, Copy, Debug)]
+pub struct OpRow {
+    pub op: u8,
+    pub name: &'static str,
+    pub arity: u8,
+    pub profile: Profile,
+}
+
+// The rows of the table, in the order of their numbers.
+#[tactic(auto, unfolding(crate::specs::Table::table))]
+fn rows() -> &'static [OpRow]
+    ensures rows { map row_of result.now ≡ table }
+    ensures count { length result.now ≡ 182 }
+{
+    &ROWS
+}
+
+/// The row of an opcode, which there is for 1 to 182.
+pub fn op_row(op: u8) -> Option<&'static OpRow>
+    ensures row { option_map row_of (option_copied result) ≡ row_with op }
+    ensures none { IsNone result ↔ ((op < 1) ⊎ (182 < op)) }
+{
+    let index = usize::from(op).checked_sub(1)?;
+    rows().get(index)
+}
