@@ -25,6 +25,10 @@ abbrev pub values_of : List PlainChunk → Result (List FileChunk) ModuleRefusal
 values_of [] = Ok []
 values_of (c ∷ chunks) = value_of c >>= λ value. values_of chunks >>= λ others. Ok (value ∷ others)
 
+-- the chunks of the form that the bytes are
+abbrev pub form_or : List ℕ → Result (List PlainChunk) ModuleRefusal
+form_or bytes = refused_as refusals.Form (form_of bytes)
+
 -- the value of the file that the bytes are
 abbrev pub file_of : List ℕ → Result (List FileChunk) ModuleRefusal
-file_of bytes = refused_as refusals.Form (form_of bytes) >>= λ chunks. values_of chunks
+file_of bytes = form_or bytes >>= values_of

@@ -13,7 +13,7 @@ use std::marker::Model;
 /// alone holds code.
 #[derive(Debug, Drop)]
 pub struct FileVal {
-    chunks: Vec<(Id, ChunkVal)>,
+    pub(crate) chunks: Vec<(Id, ChunkVal)>,
 }
 
 impl Model for FileVal {

@@ -1,16 +1,68 @@
 //! Reading a file.
 
-ghost use Rattle.std.specs.Prelude.{◌≡◌};
+ghost use Rattle.std.specs.Prelude.{◌≡◌, codes, true, bytes_eq};
 ghost use Rattle.bk_codec.specs.Reading.{GivesAll};
-ghost use Rattle.beam_module.specs.Reading.{file_of};
+ghost use Rattle.iff_form.specs.Chunk.{plain, plains};
+ghost use Rattle.beam_module.specs.Reading.{file_of, form_or, value_of, values_of};
 
+use crate::chunk_value::ChunkVal;
 use crate::file_value::FileVal;
 use crate::refusal::ModuleRefusal;
+use bk_base::ByteList;
+use code_chunk::{CodeRefusal, read_code};
+use iff_form::{Chunk, Form, FormRefusal, Id, read_form};
 use std::alloc::Global;
 
-/// Reads the value of a file.
+// The id of the chunk that holds the code.
+const CODE: Id = Id(*b"Code");
+
+fn form_from<'a>(alloc: Global, bytes: &'a [u8]) -> Result<Form<'a>, ModuleRefusal>
+    ensures { GivesAll ModuleRefusal.NoMemory (λ chunks. chunks) result (form_or bytes.now) }
+{
+    match read_form(alloc, bytes) {
+        Ok(form) => Ok(form),
+        Err(FormRefusal::NoMemory) => Err(ModuleRefusal::NoMemory),
+        Err(refusal) => Err(ModuleRefusal::Form(refusal)),
+    }
+}
+
+fn code_from(alloc: Global, chunk: &Chunk<'_>) -> Result<ChunkVal, ModuleRefusal>
+    requires { bytes_eq chunk.now.id.0 (codes "Code") ≡ true }
+    ensures { GivesAll ModuleRefusal.NoMemory (λ v. (chunk.now.id, v)) result (value_of (plain chunk.now)) }
+{
+    match read_code(alloc, chunk.payload) {
+        Ok(code) => Ok(ChunkVal::Code(code)),
+        Err(CodeRefusal::NoMemory) => Err(ModuleRefusal::NoMemory),
+        Err(refusal) => Err(ModuleRefusal::Code(refusal)),
+    }
+}
+
+fn value_from(alloc: Global, chunk: &Chunk<'_>) -> Result<ChunkVal, ModuleRefusal>
+    ensures { GivesAll ModuleRefusal.NoMemory (λ v. (chunk.now.id, v)) result (value_of (plain chunk.now)) }
+{
+    if chunk.id == CODE {
+        return code_from(alloc, chunk);
+    }
+    Ok(ChunkVal::Raw(ByteList::from_slice(alloc, chunk.payload)?))
+}
+
+fn values_from(alloc: Global, chunks: &[Chunk<'_>]) -> Result<Vec<(Id, ChunkVal)>, ModuleRefusal>
+    ensures { GivesAll ModuleRefusal.NoMemory (λ v. v.items) result (values_of (plains chunks.now)) }
+{
+    let mut values = Vec::new(alloc);
+    for chunk in chunks {
+        let value = value_from(alloc, chunk)?;
+        values.push((chunk.id, value))?;
+    }
+    Ok(values)
+}
+
+/// Reads the value of the file that the whole of the bytes is: its form, and the code of the chunk
+/// `Code` where there is one. A refusal of the form comes before one of the code.
 pub fn read_file(alloc: Global, bytes: &[u8]) -> Result<FileVal, ModuleRefusal>
     ensures { GivesAll ModuleRefusal.NoMemory (λ v. v) result (file_of bytes.now) }
 {
-    Err(ModuleRefusal::NoMemory)
+    let form = form_from(alloc, bytes)?;
+    let chunks = values_from(alloc, form.chunks())?;
+    Ok(FileVal { chunks })
 }

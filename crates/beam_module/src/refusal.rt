@@ -6,6 +6,7 @@ ghost use Rattle.beam_module.specs.declared.refusal.ModuleRefusal.TheVariants as
 use bk_base::NoMemory;
 use code_chunk::CodeRefusal;
 use iff_form::FormRefusal;
+use std::alloc::AllocFailed;
 use thiserror::Error;
 
 /// Why bytes are no file. A refusal that is carried here is never one for want of memory.
@@ -25,6 +26,14 @@ impl From<NoMemory> for ModuleRefusal {
     ghost from_gives = { λ _ e. e ≡ refusals.NoMemory };
 
     fn from(_e: NoMemory) -> ModuleRefusal {
+        ModuleRefusal::NoMemory
+    }
+}
+
+impl<T: Drop> From<AllocFailed<T>> for ModuleRefusal {
+    ghost from_gives = { λ _ e. e ≡ refusals.NoMemory };
+
+    fn from(_e: AllocFailed<T>) -> ModuleRefusal {
         ModuleRefusal::NoMemory
     }
 }
