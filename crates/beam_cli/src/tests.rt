@@ -1,6 +1,7 @@
 use super::*;
 use bk_base::Bytes;
 use bk_port::{FileList, MemHost, MemSink};
+use std::process::Abort;
 use std::test::Fail;
 
 const USAGE: &str =
@@ -101,7 +102,9 @@ fn words_outside_the_grammar_are_refused(rt: HostRuntime) -> Result<(), Fail> {
         &["info", "-x"],
         &["info", "F", "F"],
         &["Info", "F"],
+        &["show", "F"],
         &["show", "all", "F"],
+        &["show", "atoms", "-x"],
         &["cmp", "-", "-"],
         &["--help"],
     ] {
@@ -111,6 +114,132 @@ fn words_outside_the_grammar_are_refused(rt: HostRuntime) -> Result<(), Fail> {
         assert_eq!(rt; found.err.written(), USAGE.as_bytes());
     }
     Ok(())
+}
+
+// The form of these chunks, with zero padding.
+fn form(alloc: Global, chunks: &[(&[u8], &[u8])]) -> Result<Vec<u8>, Fail> {
+    let mut body = Vec::new(alloc);
+    body.extend_from_slice(b"BEAM")?;
+    for (id, payload) in chunks {
+        body.extend_from_slice(id)?;
+        body.extend_from_slice(&u32::try_from(payload.len())?.to_be_bytes())?;
+        body.extend_from_slice(payload)?;
+        body.extend_from_slice(&[0, 0, 0][..(4 - payload.len() % 4) % 4])?;
+    }
+    let mut file = Vec::new(alloc);
+    file.extend_from_slice(b"FOR1")?;
+    file.extend_from_slice(&u32::try_from(body.len())?.to_be_bytes())?;
+    file.extend_from_slice(body.as_slice())?;
+    Ok(file)
+}
+
+// Shows a table of the form of these chunks, and compares the status, the output and the message.
+fn shows(
+    rt: &(impl Abort + AllocGlobal),
+    what: &str,
+    chunks: &[(&[u8], &[u8])],
+    status: u8,
+    output: &str,
+    message: &str,
+) -> Result<(), Fail> {
+    let file = form(rt.alloc(), chunks)?;
+    let found = call(rt.alloc(), &["show", what, "F"], file.as_slice(), 1000)?;
+    assert_eq!(rt; found.status.code(), status, "at {what}: {message}");
+    assert_eq!(rt; found.out.written(), output.as_bytes(), "at {what}");
+    let mut line = String::new(rt.alloc());
+    if status != 0 {
+        write!(line, "beamkit: F: {message}\n")?;
+    }
+    assert_eq!(rt; found.err.written(), line.as_bytes(), "at {what}");
+    Ok(())
+}
+
+#[test]
+fn tables_are_shown_or_refused(rt: HostRuntime) -> Result<(), Fail> {
+    let names = b"\0\0\0\x05\x01m\x02go\x06erlang\x0bmodule_info\x0fget_module_info".as_slice();
+    let atoms = (b"AtU8".as_slice(), names);
+    let huge = b"\xff\xff\xff\xff".as_slice();
+    let calls =
+        b"\0\0\0\x02\0\0\0\x03\0\0\0\x05\0\0\0\x01\0\0\0\x03\0\0\0\x05\0\0\0\x02".as_slice();
+    let imports = (b"ImpT".as_slice(), calls);
+    let entries =
+        b"\0\0\0\x03\0\0\0\x04\0\0\0\x01\0\0\0\x06\0\0\0\x04\0\0\0\0\0\0\0\x04\0\0\0\x02\0\0\0\x01\0\0\0\x02".as_slice();
+    let exports = (b"ExpT".as_slice(), entries);
+    let locals = (b"LocT".as_slice(), b"\0\0\0\0".as_slice());
+    let one = b"\0\0\0\x01\0\0\0\x02\0\0\0\x01\0\0\0\x02\0\0\0\0\0\0\0\0\0\0\0\0".as_slice();
+    let funs = (b"FunT".as_slice(), one);
+    let zero = b"\0\0\0\x01\0\0\0\0\0\0\0\x01\0\0\0\x01".as_slice();
+    let all = "1 m\n2 go\n3 erlang\n4 module_info\n5 get_module_info\n";
+    shows(&rt, "atoms", &[atoms], 0, all, "")?;
+    shows(
+        &rt,
+        "imports",
+        &[imports, atoms],
+        0,
+        "0 erlang:get_module_info/1\n1 erlang:get_module_info/2\n",
+        "",
+    )?;
+    shows(
+        &rt,
+        "exports",
+        &[atoms, exports],
+        0,
+        "module_info/1 6\nmodule_info/0 4\ngo/1 2\n",
+        "",
+    )?;
+    shows(&rt, "locals", &[atoms, exports, locals], 0, "", "")?;
+    shows(
+        &rt,
+        "funs",
+        &[atoms, funs],
+        0,
+        "0 go/1 label 2 index 0 free 0 unique 0\n",
+        "",
+    )?;
+    shows(
+        &rt,
+        "funs",
+        &[atoms, exports, locals],
+        3,
+        "",
+        "no chunk FunT",
+    )?;
+    shows(&rt, "imports", &[imports], 3, "", "no chunk AtU8")?;
+    shows(&rt, "imports", &[], 3, "", "no chunk AtU8")?;
+    shows(&rt, "atoms", &[(b"AtU8", huge)], 3, "", "AtU8: cut")?;
+    shows(&rt, "imports", &[(b"AtU8", huge)], 3, "", "AtU8: cut")?;
+    shows(
+        &rt,
+        "imports",
+        &[atoms, (b"ImpT", huge)],
+        3,
+        "",
+        "ImpT: cut",
+    )?;
+    shows(
+        &rt,
+        "atoms",
+        &[(b"AtU8", b"\0\0\0\x01\x01\xff")],
+        3,
+        "",
+        "AtU8: atom 1 is not UTF-8",
+    )?;
+    shows(
+        &rt,
+        "locals",
+        &[atoms, (b"LocT", zero)],
+        3,
+        "",
+        "LocT: atom number in entry 0",
+    )?;
+    shows(
+        &rt,
+        "atoms",
+        &[(b"AtU8", b"\0\0\0\0a")],
+        3,
+        "",
+        "AtU8: rest",
+    )
 }
 
 #[test]

@@ -26,4 +26,4 @@ returns-clause-complete g c =
     let Other : Type 0 = Rose (g.O.Sink.faults c.args.out.now) (g.O.Sink.faults c.args.out.now) in
     let asks : Asked = asked c.in-Some.command in
     rw c.status.ensures (subst (λ (o : Option Asked). IsAnswered (status_of c.in-Err.stop) (answer_or_usage holds o) (Any Faulty (named o) ⊎ Other)) c.in-Some.ensures
-      (complete_at c.in-Err.stop (asked_answer holds asks) Faulty (named (Some asks)) Other c.in-Err.ensures.reason))
+    (complete_at c.in-Err.stop (asked_answer holds asks) Faulty (named (Some asks)) Other c.in-Err.ensures.reason))
