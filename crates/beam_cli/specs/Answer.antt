@@ -2,12 +2,13 @@
 use Rattle.std.specs.Prelude.{ℕ, List, [], length, nat_lt, Option, Some, None, option_map, Result, Ok, Err, if◌then◌else◌}
 use Rattle.bk_codec.specs.Reading.{◌>>=◌}
 use Rattle.iff_form.specs.Text.{info_of}
+use Rattle.listing_out.specs.Lines.{listing_of}
 use Rattle.beam_cli.specs.declared.refusal.Refusal.{Refusal}
 use Rattle.beam_cli.specs.declared.status.Status.{Status}
 use Rattle.beam_cli.specs.declared.status.Status.TheVariants.{Done, Usage, Grammar, TooLarge}
-use Rattle.beam_cli.specs.Words.{Asked, Info, Show, asked_by}
+use Rattle.beam_cli.specs.Words.{Asked, Info, Show, Disasm, asked_by}
 use Rattle.beam_cli.specs.Message.{line_about, usage_line, too_large_line, refusal_text}
-use Rattle.beam_cli.specs.Needs.{chunks_of}
+use Rattle.beam_cli.specs.Needs.{chunks_of, value_of_file}
 use Rattle.beam_cli.specs.Showing.{show_output}
 
 -- what is written to the output, the message, and the status
@@ -35,6 +36,10 @@ answered name (Err e) = refused name e
 abbrev pub info_output : List ℕ → Result (List ℕ) Refusal
 info_output bytes = chunks_of bytes >>= λ chunks. Ok (info_of chunks)
 
+-- the output of `disasm`
+abbrev pub disasm_output : List ℕ → Result (List ℕ) Refusal
+disasm_output bytes = value_of_file bytes >>= λ chunks. Ok (listing_of chunks)
+
 -- a command on one file, which may have at most 16,777,216 bytes
 abbrev pub of_file : (List ℕ → Result (List ℕ) Refusal) → List ℕ → List ℕ → Answer
 of_file output name bytes = if nat_lt 16777216 (length bytes) then stopped (too_large_line name) TooLarge else answered name (output bytes)
@@ -43,6 +48,7 @@ of_file output name bytes = if nat_lt 16777216 (length bytes) then stopped (too_
 abbrev pub asked_answer : (List ℕ → Option (List ℕ)) → Asked → Option Answer
 asked_answer holds (Info name) = option_map (of_file info_output name) (holds name)
 asked_answer holds (Show what name) = option_map (of_file (show_output what) name) (holds name)
+asked_answer holds (Disasm name) = option_map (of_file disasm_output name) (holds name)
 
 abbrev pub answer_or_usage : (List ℕ → Option (List ℕ)) → Option Asked → Option Answer
 answer_or_usage holds None = Some (stopped usage_line Usage)

@@ -2,10 +2,14 @@
 use Rattle.std.specs.Prelude.{ℕ, List, ◌++◌, codes, decimal}
 use Rattle.iff_form.specs.declared.refusal.FormRefusal.{FormRefusal}
 use Rattle.iff_form.specs.declared.refusal.FormRefusal.TheVariants.{Gzip, NotBeam, Size, ChunkCut, Twice, NoMemory as FormMemory}
+use Rattle.compact_term.specs.declared.refusal.OperandRefusal.{OperandRefusal}
+use Rattle.compact_term.specs.declared.refusal.OperandRefusal.TheVariants as operands
+use Rattle.code_chunk.specs.declared.refusal.CodeRefusal.{CodeRefusal}
+use Rattle.code_chunk.specs.declared.refusal.CodeRefusal.TheVariants as codings
 use Rattle.index_tables.specs.declared.refusal.TableRefusal.{TableRefusal}
 use Rattle.index_tables.specs.declared.refusal.TableRefusal.TheVariants.{Cut, AtomUtf8, AtomIndex, Rest, NoMemory as TableMemory}
 use Rattle.beam_cli.specs.declared.refusal.Refusal.{Refusal}
-use Rattle.beam_cli.specs.declared.refusal.Refusal.TheVariants.{Form, Missing, Table, NoMemory}
+use Rattle.beam_cli.specs.declared.refusal.Refusal.TheVariants.{Form, Missing, Table, Code, NoMemory}
 use Rattle.iff_form.specs.Text.{id_text}
 
 -- a message of this text
@@ -48,9 +52,27 @@ table_text (AtomUtf8 n) = codes "atom " ++ (decimal n ++ codes " is not UTF-8")
 table_text (AtomIndex entry) = codes "atom number in entry " ++ decimal entry
 table_text TableMemory = codes "out of memory"
 
+-- why bytes are no operand
+abbrev pub operand_why : OperandRefusal → List ℕ
+operand_why operands.Cut = codes "cut"
+operand_why operands.Inner = codes "inner"
+operand_why (operands.Wide tag) = codes "too wide, tag " ++ decimal tag
+operand_why (operands.Negative tag) = codes "negative, tag " ++ decimal tag
+operand_why (operands.Extended value) = codes "extended " ++ decimal value
+operand_why operands.Nested = codes "nested"
+operand_why operands.NoMemory = codes "out of memory"
+
+-- why a payload is no code
+abbrev pub code_text : CodeRefusal → List ℕ
+code_text codings.Header = codes "header"
+code_text (codings.Opcode at op) = codes "opcode " ++ (decimal op ++ (codes " at " ++ decimal at))
+code_text (codings.Operand at why) = codes "operand at " ++ (decimal at ++ (codes ": " ++ operand_why why))
+code_text codings.NoMemory = codes "out of memory"
+
 -- why a file is not what a command needs
 abbrev pub refusal_text : Refusal → List ℕ
 refusal_text (Form e) = form_text e
 refusal_text (Missing id) = codes "no chunk " ++ id_text id
 refusal_text (Table id e) = id_text id ++ (codes ": " ++ table_text e)
+refusal_text (Code e) = codes "Code: " ++ code_text e
 refusal_text NoMemory = codes "out of memory"

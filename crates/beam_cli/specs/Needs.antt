@@ -6,9 +6,13 @@ use Rattle.iff_form.specs.declared.refusal.FormRefusal.{FormRefusal}
 use Rattle.iff_form.specs.Chunk.{PlainChunk}
 use Rattle.iff_form.specs.Form.{payload_of}
 use Rattle.iff_form.specs.Reading.{form_of}
+use Rattle.beam_module.specs.declared.refusal.ModuleRefusal.{ModuleRefusal}
+use Rattle.beam_module.specs.declared.refusal.ModuleRefusal.TheVariants as modules
+use Rattle.beam_module.specs.File.{FileChunk}
+use Rattle.beam_module.specs.Reading.{file_of}
 use Rattle.index_tables.specs.declared.refusal.TableRefusal.{TableRefusal}
 use Rattle.beam_cli.specs.declared.refusal.Refusal.{Refusal}
-use Rattle.beam_cli.specs.declared.refusal.Refusal.TheVariants.{Form, Missing, Table}
+use Rattle.beam_cli.specs.declared.refusal.Refusal.TheVariants.{Form, Missing, Table, Code, NoMemory}
 
 -- what was read, or the refusal as one of the file
 abbrev pub refused_as : {A E : Type 0} → (E → Refusal) → Result A E → Result A Refusal
@@ -30,3 +34,13 @@ payload_at id chunks = found_or id (payload_of id chunks)
 -- the table in a chunk that has to be there
 abbrev pub table_at : {A : Type 0} → (List ℕ → Result A TableRefusal) → Id → List PlainChunk → Result A Refusal
 table_at read id chunks = payload_at id chunks >>= λ payload. refused_as (Table id) (read payload)
+
+-- a refusal of the value of a file as one of the file
+abbrev pub file_refusal : ModuleRefusal → Refusal
+file_refusal (modules.Form e) = Form e
+file_refusal (modules.Code e) = Code e
+file_refusal modules.NoMemory = NoMemory
+
+-- the value of the file: its form, and the code where there is a chunk for it
+abbrev pub value_of_file : List ℕ → Result (List FileChunk) Refusal
+value_of_file bytes = refused_as file_refusal (file_of bytes)

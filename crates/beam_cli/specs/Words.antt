@@ -7,6 +7,7 @@ use Rattle.beam_cli.specs.declared.shown.Shown.TheVariants.{Atoms, Imports, Expo
 pub data Asked : Type 0 where
   Info : (name : List ℕ) → Asked
   Show : (what : Shown) (name : List ℕ) → Asked
+  Disasm : (name : List ℕ) → Asked
 
 -- a word that names a file: `-`, or a word that is not empty and does not begin with `-`
 abbrev pub is_name : List ℕ → Bool
@@ -27,9 +28,16 @@ abbrev pub show_asked : Option Shown → List ℕ → Option Asked
 show_asked None name = None
 show_asked (Some what) name = Some (Show what name)
 
+-- a command on one file and nothing else
+abbrev pub of_file_asked : List ℕ → List ℕ → Option Asked
+of_file_asked word name =
+    if bytes_eq word (codes "info") then Some (Info name)
+    else if bytes_eq word (codes "disasm") then Some (Disasm name)
+    else None
+
 -- what the words ask for; none where they are not in the grammar
 abbrev pub asked_by : List (List ℕ) → Option Asked
-asked_by (word ∷ name ∷ []) = if bytes_eq word (codes "info") && is_name name then Some (Info name) else None
+asked_by (word ∷ name ∷ []) = if is_name name then of_file_asked word name else None
 asked_by (word ∷ what ∷ name ∷ []) = if bytes_eq word (codes "show") && is_name name then show_asked (shown_by what) name else None
 asked_by words = None
 
@@ -38,3 +46,4 @@ abbrev pub named : Option Asked → List (List ℕ)
 named None = []
 named (Some (Info name)) = name ∷ []
 named (Some (Show what name)) = name ∷ []
+named (Some (Disasm name)) = name ∷ []

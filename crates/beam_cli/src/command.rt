@@ -14,6 +14,8 @@ pub enum Command<'a> {
     Info(&'a Text),
     /// Shows one table.
     Show(Shown, &'a Text),
+    /// Lists the chunks, the code as instructions.
+    Disasm(&'a Text),
 }
 
 // Whether a word names a file.
@@ -51,10 +53,17 @@ fn shown_by(word: &Text) -> Option<Shown>
 fn of_two<'a>(word: &Text, name: &'a Text) -> Option<Command<'a>>
     ensures { option_map asked result ≡ asked_by (word.now ∷ name.now ∷ []) }
 {
-    if word.as_bytes() == b"info".as_slice() && names_file(name) {
-        return Some(Command::Info(name));
+    if !names_file(name) {
+        return None;
     }
-    None
+    let word = word.as_bytes();
+    if word == b"info".as_slice() {
+        Some(Command::Info(name))
+    } else if word == b"disasm".as_slice() {
+        Some(Command::Disasm(name))
+    } else {
+        None
+    }
 }
 
 // A command of three words.

@@ -4,14 +4,14 @@ ghost use Rattle.std.specs.Prelude.{◌≡◌, ◌≤◌, ◌⊎◌, ℕ, List, 
 ghost use Rattle.bk_codec.specs.Reading.{GivesAll};
 ghost use Rattle.bk_port.specs.Causes.{Rose};
 ghost use Rattle.bk_port.specs.Reading.{IsLeftAfter, HasReadAtMost};
-ghost use Rattle.beam_cli.specs.Words.{Info, Show, named};
+ghost use Rattle.beam_cli.specs.Words.{Info, Show, Disasm, named};
 ghost use Rattle.beam_cli.specs.Asking.{asked};
-ghost use Rattle.beam_cli.specs.Answer.{made, info_output, asked_answer};
+ghost use Rattle.beam_cli.specs.Answer.{made, info_output, disasm_output, asked_answer};
 ghost use Rattle.beam_cli.specs.Outcome.{SomeLeft};
 ghost use Rattle.beam_cli.specs.Stopping.{HasReason, HasLoadReason, IsTooLarge, stop_of};
 
 use crate::command::Command;
-use crate::needs::form_of;
+use crate::needs::{form_of, value_of_file};
 use crate::refusal::Refusal;
 use crate::showing::show_text;
 use crate::shown::Shown;
@@ -19,6 +19,7 @@ use crate::stop::Stop;
 use bk_base::{Bytes, Text};
 use bk_port::{Host, LoadFault, load};
 use iff_form::info_text;
+use listing_out::listing;
 use std::alloc::Global;
 
 // The bytes of a named file.
@@ -48,6 +49,14 @@ fn info_of(alloc: Global, bytes: &[u8]) -> Result<Bytes, Refusal>
 {
     let form = form_of(alloc, bytes)?;
     Ok(info_text(alloc, &form)?)
+}
+
+// The output of `disasm` for these bytes.
+fn listing_of(alloc: Global, bytes: &[u8]) -> Result<Bytes, Refusal>
+    ensures { GivesAll Refusal.NoMemory (λ text. text.items) result (disasm_output bytes.now) }
+{
+    let value = value_of_file(alloc, bytes)?;
+    Ok(listing(alloc, &value)?)
 }
 
 // What stops a command on this file for a refusal.
@@ -99,6 +108,23 @@ fn make_show<'a, H: Host>(
     }
 }
 
+// The output of `disasm` on a file.
+fn make_disasm<'a, H: Host>(alloc: Global, host: &mut H, name: &'a Text) -> Result<Bytes, Stop<'a>>
+    ensures ok { IfOk result (λ text. IfSome (asked_answer (H.holds host.old) (Disasm name.now)) (λ a. a ≡ made text.items)) }
+    ensures reason { IfErr result (HasReason (asked_answer (H.holds host.old) (Disasm name.now))
+        (λ n. Rose (H.faults host.old n) (H.faults host.new n)) (name.now ∷ [])) }
+    ensures too_large { IfErr result (λ stop. IsTooLarge stop → H.count host.new ≡ 16777217) }
+    ensures not_too_large { IfErr result (λ stop. IsTooLarge stop ⊎ HasReadAtMost 16777216 (H.count host.old) (H.count host.new)) }
+    ensures at_most { OnOk result (HasReadAtMost 16777216 (H.count host.old) (H.count host.new)) }
+    ensures left { SomeLeft (H.holds host.old) (H.left host.old) (H.left host.new) (name.now ∷ []) }
+{
+    let bytes = load_file(alloc, host, name)?;
+    match listing_of(alloc, bytes.as_slice()) {
+        Ok(text) => Ok(text),
+        Err(refusal) => Err(stop_for(name, refusal)),
+    }
+}
+
 /// The whole output of a command, or why there is none.
 pub fn make<'a, H: Host>(
     alloc: Global,
@@ -116,5 +142,6 @@ pub fn make<'a, H: Host>(
     match command {
         Command::Info(name) => make_info(alloc, host, name),
         Command::Show(what, name) => make_show(alloc, host, what, name),
+        Command::Disasm(name) => make_disasm(alloc, host, name),
     }
 }

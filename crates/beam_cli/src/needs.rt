@@ -3,10 +3,11 @@
 ghost use Rattle.std.specs.Prelude.{◌≡◌, codes};
 ghost use Rattle.bk_codec.specs.Reading.{GivesAll};
 ghost use Rattle.index_tables.specs.Reading.{all_atoms};
-ghost use Rattle.beam_cli.specs.Needs.{chunks_of, payload_at, table_at};
+ghost use Rattle.beam_cli.specs.Needs.{chunks_of, payload_at, table_at, value_of_file};
 ghost use Rattle.beam_cli.specs.Showing.{id_of};
 
 use crate::refusal::Refusal;
+use beam_module::{FileVal, ModuleRefusal, read_file};
 use iff_form::{Form, FormRefusal, Id, read_form};
 use index_tables::{Atoms, TableRefusal, read_atoms};
 use std::alloc::Global;
@@ -39,5 +40,17 @@ pub fn atoms_of(alloc: Global, form: &Form<'_>) -> Result<Atoms, Refusal>
         Ok(atoms) => Ok(atoms),
         Err(TableRefusal::NoMemory) => Err(Refusal::NoMemory),
         Err(refusal) => Err(Refusal::Table(id, refusal)),
+    }
+}
+
+/// The value of the file that the bytes are.
+pub fn value_of_file(alloc: Global, bytes: &[u8]) -> Result<FileVal, Refusal>
+    ensures { GivesAll Refusal.NoMemory (λ v. v) result (value_of_file bytes.now) }
+{
+    match read_file(alloc, bytes) {
+        Ok(value) => Ok(value),
+        Err(ModuleRefusal::NoMemory) => Err(Refusal::NoMemory),
+        Err(ModuleRefusal::Form(refusal)) => Err(Refusal::Form(refusal)),
+        Err(ModuleRefusal::Code(refusal)) => Err(Refusal::Code(refusal)),
     }
 }

@@ -4,6 +4,7 @@ ghost use Rattle.std.specs.Prelude.{◌≡◌};
 ghost use Rattle.beam_cli.specs.declared.refusal.Refusal.TheVariants as refusals;
 
 use bk_base::NoMemory;
+use code_chunk::CodeRefusal;
 use iff_form::{FormRefusal, Id};
 use index_tables::TableRefusal;
 
@@ -17,6 +18,8 @@ pub enum Refusal {
     Missing(Id),
     /// The payload of the chunk with this id is not its table.
     Table(Id, TableRefusal),
+    /// The payload of the chunk `Code` is no code.
+    Code(CodeRefusal),
     /// Memory ran out.
     NoMemory,
 }

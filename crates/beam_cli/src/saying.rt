@@ -1,7 +1,7 @@
 //! The messages, which take no memory.
 
-ghost use Rattle.std.specs.Prelude.{◌≡◌, ◌++◌, List, ℕ, codes};
-ghost use Rattle.beam_cli.specs.Message.{line, line_about, form_text, refusal_text, table_text, usage_line, write_fault_line};
+ghost use Rattle.std.specs.Prelude.{◌≡◌, ◌++◌, List, ℕ, codes, decimal};
+ghost use Rattle.beam_cli.specs.Message.{line, line_about, code_text, form_text, operand_why, refusal_text, table_text, usage_line, write_fault_line};
 ghost use Rattle.iff_form.specs.Text.{id_text};
 ghost use Rattle.beam_cli.specs.Outcome.{IsSaid};
 ghost use Rattle.beam_cli.specs.Stopping.{message_of};
@@ -10,6 +10,8 @@ use crate::refusal::Refusal;
 use crate::stop::Stop;
 use bk_base::Text;
 use bk_port::{Sink, emit_all};
+use code_chunk::CodeRefusal;
+use compact_term::OperandRefusal;
 use iff_form::{FormRefusal, Id, IdText};
 use index_tables::TableRefusal;
 use itoa::Buffer;
@@ -91,6 +93,54 @@ fn say_table<E: Sink>(err: &mut E, name: &Text, id: Id, refusal: TableRefusal)
     }
 }
 
+// Writes why the operand at this offset of the code is none.
+fn say_operand<E: Sink>(err: &mut E, name: &Text, at: usize, why: OperandRefusal)
+    ensures { IsSaid (E.written err.old) (E.written err.new) (E.faults err.old) (E.faults err.new)
+        (line_about name.now (codes "Code: operand at " ++ (decimal at ++ (codes ": " ++ operand_why why)))) }
+{
+    let mut place = Buffer::new();
+    let mut number = Buffer::new();
+    let place = place.format(at).as_bytes();
+    let lead = b"Code: operand at ";
+    match why {
+        OperandRefusal::Cut => say_about(err, name, lead, place, b": cut", b""),
+        OperandRefusal::Inner => say_about(err, name, lead, place, b": inner", b""),
+        OperandRefusal::Wide { tag } => {
+            let tag = number.format(tag).as_bytes();
+            say_about(err, name, lead, place, b": too wide, tag ", tag)
+        }
+        OperandRefusal::Negative { tag } => {
+            let tag = number.format(tag).as_bytes();
+            say_about(err, name, lead, place, b": negative, tag ", tag)
+        }
+        OperandRefusal::Extended { value } => {
+            let value = number.format(value).as_bytes();
+            say_about(err, name, lead, place, b": extended ", value)
+        }
+        OperandRefusal::Nested => say_about(err, name, lead, place, b": nested", b""),
+        OperandRefusal::NoMemory => say_about(err, name, lead, place, b": out of memory", b""),
+    }
+}
+
+// Writes why the payload of the chunk `Code` is no code.
+fn say_code<E: Sink>(err: &mut E, name: &Text, refusal: CodeRefusal)
+    ensures { IsSaid (E.written err.old) (E.written err.new) (E.faults err.old) (E.faults err.new)
+        (line_about name.now (codes "Code: " ++ code_text refusal)) }
+{
+    let mut first = Buffer::new();
+    let mut second = Buffer::new();
+    match refusal {
+        CodeRefusal::Header => say_about(err, name, b"Code: header", b"", b"", b""),
+        CodeRefusal::Opcode { at, op } => {
+            let op = first.format(op).as_bytes();
+            let at = second.format(at).as_bytes();
+            say_about(err, name, b"Code: opcode ", op, b" at ", at)
+        }
+        CodeRefusal::Operand { at, why } => say_operand(err, name, at, why),
+        CodeRefusal::NoMemory => say_about(err, name, b"Code: out of memory", b"", b"", b""),
+    }
+}
+
 // Writes why a file is not what a command needs.
 fn say_refusal<E: Sink>(err: &mut E, name: &Text, refusal: Refusal)
     ensures { IsSaid (E.written err.old) (E.written err.new) (E.faults err.old) (E.faults err.new)
@@ -103,6 +153,7 @@ fn say_refusal<E: Sink>(err: &mut E, name: &Text, refusal: Refusal)
             say_about(err, name, b"no chunk ", b"", b"", id.as_bytes())
         }
         Refusal::Table(id, refusal) => say_table(err, name, id, refusal),
+        Refusal::Code(refusal) => say_code(err, name, refusal),
         Refusal::NoMemory => say_about(err, name, b"out of memory", b"", b"", b""),
     }
 }
