@@ -5,11 +5,11 @@ use Rattle.std.proofs.lemmas.Bool.{cases_lt, ltb-true, ltb-false, lt-ltb, le-ltb
 use Rattle.byteorder.specs.Endian.{big_number}
 use Rattle.bk_codec.specs.Reading.{◌>>=◌, giving, made_of, number_at, many_at, numbered_at, counted_at, alone, ended, GivesAll}
 use Rattle.bk_codec.specs.Spelling.{IsBytes, SpellsMany, SpellsWord, SpellsCounted}
-use Rattle.bk_codec.specs.Refusal.{StopsAt, GoesOn, RefusesCounted}
+use Rattle.bk_codec.specs.Refusal.{StopsAt, GoesOn, RefusesCounted, IsDecided}
 use Rattle.bk_codec.proofs.Steps.{bind_err, made_err, guard_ok, guard_err, err_is, ok_is}
 use Rattle.bk_codec.proofs.Agreement.{Agrees, Takes, number_agrees}
 use Rattle.bk_codec.proofs.Counted.{AgreesByNumber, counted_agrees}
-use Rattle.bk_codec.proofs.Ended.{ended_again}
+use Rattle.bk_codec.proofs.Ended.{ended_takes, ended_again}
 
 -- ---- words
 
@@ -183,18 +183,25 @@ module _ {E A : Type 0} (one : ℕ → List ℕ → Result (A × List ℕ) E) (R
   refusal memory cut rest i bytes (Err e) fits (inl none) = inl none
   refusal memory cut rest i bytes (Err e) fits (inr read) = inr (refused_why cut rest i bytes e fits read)
 
-  -- bytes are refused for one reason, and no values are spelled there then
-  pub one_reason : (cut rest : E) (i : ℕ) (bytes : List ℕ) (d e : E) → RefusesCounted R bad cut rest i bytes d → RefusesCounted R bad cut rest i bytes e → d ≡ e
-  one_reason cut rest i bytes d e first second =
-      err_is {A = List A} d e (sym (why_refused cut rest i bytes d first) ∙ why_refused cut rest i bytes e second)
+  -- ---- every list of bytes is decided
 
-  pub not_both : (cut rest : E) (i : ℕ) (bytes : List ℕ) (xs : List A) (e : E) → SpellsCounted R xs bytes → RefusesCounted R bad cut rest i bytes e → ⊥
+  each_of : (cut rest : E) (i : ℕ) (bytes : List ℕ) (r : Result (List A) E) → IsBytes bytes → ended rest (counted_at cut one i bytes) ≡ r
+      → ((xs : List A) × SpellsCounted R xs bytes) ⊎ ((e : E) × RefusesCounted R bad cut rest i bytes e)
+  each_of cut rest i bytes (Ok xs) fits read = inl (xs, ended_takes (counted_agrees cut one R agrees i) rest bytes xs fits read)
+  each_of cut rest i bytes (Err e) fits read = inr (e, refused_why cut rest i bytes e fits read)
+
+  not_both : (cut rest : E) (i : ℕ) (bytes : List ℕ) (xs : List A) (e : E) → SpellsCounted R xs bytes → RefusesCounted R bad cut rest i bytes e → ⊥
   not_both cut rest i bytes xs e spelled refuses =
       let read : ended rest (counted_at cut one i bytes) ≡ Ok xs = ended_again (counted_agrees cut one R agrees i) rest bytes xs spelled in
       let none : ended rest (counted_at cut one i bytes) ≡ Err e = why_refused cut rest i bytes e refuses in
       cc
 
--- bytes are the spelling of one list of values
-pub one_value : {E A : Type 0} {p : List ℕ → Result (A × List ℕ) E} {R : A → List ℕ → Type 0} → Agrees p R → (rest : E) (bytes : List ℕ) (x y : A) → R x bytes → R y bytes → x ≡ y
-one_value {E} agrees rest bytes x y first second =
-    ok_is {E = E} x y (sym (ended_again agrees rest bytes x first) ∙ ended_again agrees rest bytes y second)
+  pub decided : (cut rest : E) (i : ℕ) → IsDecided (SpellsCounted R) (RefusesCounted R bad cut rest i)
+  decided cut rest i = record {
+    each = λ bytes fits. each_of cut rest i bytes (ended rest (counted_at cut one i bytes)) fits refl;
+    one_value = λ bytes x y first second.
+        let agreed = counted_agrees cut one R agrees i in
+        ok_is {E = E} x y (sym (ended_again agreed rest bytes x first) ∙ ended_again agreed rest bytes y second);
+    one_reason = λ bytes d e first second. err_is {A = List A} d e (sym (why_refused cut rest i bytes d first) ∙ why_refused cut rest i bytes e second);
+    not_both = not_both cut rest i;
+  }

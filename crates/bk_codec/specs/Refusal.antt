@@ -1,6 +1,6 @@
 -- Why bytes are no counted values: where they stop being the spelling of any.
 use Rattle.std.specs.Prelude.{◌≡◌, ◌⊎◌, ℕ, ◌+◌, ◌<◌, List, ◌++◌, length}
-use Rattle.bk_codec.specs.Spelling.{SpellsMany, SpellsWord, SpellsCounted}
+use Rattle.bk_codec.specs.Spelling.{IsBytes, SpellsMany, SpellsWord, SpellsCounted}
 
 -- a count, then fewer values than it says, and then bytes that are refused as the next value; `first` is the number of the first value
 pub record StopsAt {A E : Type 0} (R : A → List ℕ → Type 0) (bad : ℕ → List ℕ → E → Type 0) (first : ℕ) (bytes : List ℕ) (e : E) : Type 0 where
@@ -28,3 +28,10 @@ pub record GoesOn {A : Type 0} (R : A → List ℕ → Type 0) (bytes : List ℕ
 abbrev pub RefusesCounted : {A E : Type 0} → (A → List ℕ → Type 0) → (ℕ → List ℕ → E → Type 0) → E → E → ℕ → List ℕ → E → Type 0
 RefusesCounted R bad cut rest first bytes e =
     ((e ≡ cut) × (length bytes < 4)) ⊎ (StopsAt R bad first bytes e ⊎ ((e ≡ rest) × GoesOn R bytes))
+
+-- every list of bytes is the spelling of just one value, or it is refused for just one reason
+pub record IsDecided {A E : Type 0} (spells : A → List ℕ → Type 0) (refuses : List ℕ → E → Type 0) : Type 0 where
+  pub each : (bytes : List ℕ) → IsBytes bytes → ((x : A) × spells x bytes) ⊎ ((e : E) × refuses bytes e)
+  pub one_value : (bytes : List ℕ) (x y : A) → spells x bytes → spells y bytes → x ≡ y
+  pub one_reason : (bytes : List ℕ) (d e : E) → refuses bytes d → refuses bytes e → d ≡ e
+  pub not_both : (bytes : List ℕ) (x : A) (e : E) → spells x bytes → refuses bytes e → ⊥
