@@ -17,8 +17,9 @@ use Rattle.index_tables.specs.Atoms.{IsAtom}
 use Rattle.index_tables.specs.Entries.{NamesAtoms, FitsWords, SpellsEntry, SpellsTable}
 use Rattle.index_tables.specs.Reading.{word_at, record_at, is_atom, entry_at, entries_at}
 use Rattle.index_tables.specs.Shape.{Shape, IsShape}
-use Rattle.index_tables.specs.Refusal.{NoEntry, HasUnknownAtom}
-use Rattle.bk_codec.proofs.Refused.{RefusesByNumber, words_err, words_cut}
+use Rattle.index_tables.specs.Refusal.{NoEntry, HasUnknownAtom, RefusesTable}
+use Rattle.bk_codec.specs.Refusal.{IsDecided}
+use Rattle.bk_codec.proofs.Refused.{RefusesByNumber, words_err, words_cut, decided}
 
 -- ---- atom numbers
 
@@ -129,3 +130,7 @@ module _ {A : Type 0} (shape : Shape A) (is_shape : IsShape shape) where
 
   pub entry_refused : (names : List (List ℕ)) → RefusesByNumber (entry_at shape names) (NoEntry shape.width shape.words shape.atoms names)
   entry_refused names = record { why = entry_why names; refuses = entry_refuses names }
+
+  pub entries_decided : (names : List (List ℕ)) → IsDecided (SpellsTable shape.words shape.atoms names) (RefusesTable shape.width shape.words shape.atoms names)
+  entries_decided names =
+      decided (entry_at shape names) (SpellsEntry shape.words shape.atoms names) (NoEntry shape.width shape.words shape.atoms names) (entry_agrees names) (entry_refused names) Cut Rest 0

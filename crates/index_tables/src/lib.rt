@@ -4,12 +4,14 @@
 
 mod atoms;
 mod entry;
+mod laws;
 mod reading;
 mod refusal;
 mod table;
 mod text;
 
 pub use entry::{Export, Fun, Import};
+pub use laws::{atoms_are_decided, entries_are_decided};
 pub use reading::{read_atoms, read_exports, read_funs, read_imports, read_locals};
 pub use refusal::TableRefusal;
 pub use table::{Atoms, Exports, Funs, Imports, Table};

@@ -1,0 +1,20 @@
+//! Laws of the tables' definitions.
+
+ghost use Rattle.std.specs.Prelude.{ℕ, List};
+ghost use Rattle.bk_codec.specs.Refusal.{IsDecided};
+ghost use Rattle.index_tables.specs.Atoms.{SpellsAtoms};
+ghost use Rattle.index_tables.specs.Entries.{SpellsImports, SpellsExports, SpellsFuns};
+ghost use Rattle.index_tables.specs.Refusal.{RefusesAtoms, RefusesImports, RefusesExports, RefusesFuns};
+
+/// Every payload is the table of just one list of atoms, or it is refused for just one reason.
+pub fn atoms_are_decided()
+    ensures { IsDecided SpellsAtoms RefusesAtoms }
+{}
+
+/// Over any atoms, every payload is the table of just one list of entries, or it is refused for just
+/// one reason.
+pub fn entries_are_decided()
+    ensures imports { (names : List (List ℕ)) → IsDecided (SpellsImports names) (RefusesImports names) }
+    ensures exports { (names : List (List ℕ)) → IsDecided (SpellsExports names) (RefusesExports names) }
+    ensures funs { (names : List (List ℕ)) → IsDecided (SpellsFuns names) (RefusesFuns names) }
+{}
