@@ -1,5 +1,15 @@
 //! The entries of the tables of words.
 
+ghost use Rattle.std.specs.Prelude.{◌≡◌};
+ghost use Rattle.std.specs.List.{list_all};
+ghost use Rattle.bk_codec.specs.Reading.{Gives};
+ghost use Rattle.index_tables.specs.Reading.{word_at, record_at, is_atom};
+ghost use Rattle.index_tables.specs.declared.refusal.TableRefusal.TheVariants as refusals;
+
+use crate::refusal::TableRefusal;
+use crate::table::Atoms;
+use bk_base::Cursor;
+
 /// A function of another module, `module:name/arity`. Both names are atom numbers.
 #[derive(Clone, Copy, Debug, PartialEq, Eq)]
 pub struct Import {
@@ -27,4 +37,91 @@ pub struct Fun {
     /// How many values a fun carries with it.
     pub free: u32,
     pub unique: u32,
+}
+
+/// An entry of a table: a record of words, some of which are atom numbers.
+pub(crate) trait Entry: Sized + Drop {
+    ghost use Rattle.index_tables.specs.Shape.{Shape, IsShape};
+
+    ghost shape: { Shape Self };
+
+    /// The next entry, of which all words are read before anything else is looked at.
+    fn read(cur: &mut Cursor<'_>) -> Result<Self, TableRefusal>
+        ensures { Gives refusals.NoMemory (λ x. x) cur.new.rest result (record_at shape.of_words shape.width cur.old.rest) };
+
+    /// Whether each of its atom numbers is that of one of the atoms.
+    fn names_atoms(&self, atoms: &Atoms) -> bool
+        ensures { result ≡ list_all (is_atom atoms.now) (shape.atoms self.now) };
+
+    ghost is_shape: { IsShape shape };
+}
+
+impl Entry for Import {
+    ghost use Rattle.index_tables.specs.Shape.{import_shape, import_is_shape};
+
+    ghost shape = { import_shape };
+
+    ghost is_shape = { import_is_shape };
+
+    fn read(cur: &mut Cursor<'_>) -> Result<Import, TableRefusal> {
+        Ok(Import {
+            module: word(cur)?,
+            name: word(cur)?,
+            arity: word(cur)?,
+        })
+    }
+
+    fn names_atoms(&self, atoms: &Atoms) -> bool {
+        atoms.name(self.module).is_some() && atoms.name(self.name).is_some()
+    }
+}
+
+impl Entry for Export {
+    ghost use Rattle.index_tables.specs.Shape.{export_shape, export_is_shape};
+
+    ghost shape = { export_shape };
+
+    ghost is_shape = { export_is_shape };
+
+    fn read(cur: &mut Cursor<'_>) -> Result<Export, TableRefusal> {
+        Ok(Export {
+            name: word(cur)?,
+            arity: word(cur)?,
+            label: word(cur)?,
+        })
+    }
+
+    fn names_atoms(&self, atoms: &Atoms) -> bool {
+        atoms.name(self.name).is_some()
+    }
+}
+
+impl Entry for Fun {
+    ghost use Rattle.index_tables.specs.Shape.{fun_shape, fun_is_shape};
+
+    ghost shape = { fun_shape };
+
+    ghost is_shape = { fun_is_shape };
+
+    fn read(cur: &mut Cursor<'_>) -> Result<Fun, TableRefusal> {
+        Ok(Fun {
+            name: word(cur)?,
+            arity: word(cur)?,
+            label: word(cur)?,
+            index: word(cur)?,
+            free: word(cur)?,
+            unique: word(cur)?,
+        })
+    }
+
+    fn names_atoms(&self, atoms: &Atoms) -> bool {
+        atoms.name(self.name).is_some()
+    }
+}
+
+/// The next word.
+pub(crate) fn word(cur: &mut Cursor<'_>) -> Result<u32, TableRefusal>
+    ensures { Gives refusals.NoMemory (λ n. n) cur.new.rest result (word_at cur.old.rest) }
+{
+    cur.be32().ok_or(TableRefusal::Cut)
 }

@@ -1,16 +1,15 @@
 //! Reading the tables.
 
 ghost use Rattle.std.specs.Prelude.{◌≡◌, ◌⊎◌, ℕ, List, IfOk, IfErr};
-ghost use Rattle.std.specs.List.{list_all};
 ghost use Rattle.bk_codec.specs.Reading.{Gives, GivesAll, alone, numbered_at};
-ghost use Rattle.index_tables.specs.Reading.{word_at, record_at, is_atom, text_of, atom_at, all_atoms, entry_at, all_entries};
+ghost use Rattle.index_tables.specs.Reading.{text_of, atom_at, all_atoms, entry_at, all_entries};
 ghost use Rattle.index_tables.specs.Atoms.{SpellsAtoms, FitsAtoms};
 ghost use Rattle.index_tables.specs.Entries.{SpellsTable, SpellsImports, SpellsExports, SpellsFuns, NamesAtoms, FitsWords, import_words, import_atoms, export_words, export_atoms, fun_words, fun_atoms};
 ghost use Rattle.index_tables.specs.Refusal.{RefusesAtoms, RefusesTable, RefusesImports, RefusesExports, RefusesFuns};
 ghost use Rattle.index_tables.specs.Shape.{import_shape, export_shape, fun_shape};
 ghost use Rattle.index_tables.specs.declared.refusal.TableRefusal.TheVariants as refusals;
 
-use crate::entry::{Export, Fun, Import};
+use crate::entry::{Entry, Export, Fun, Import, word};
 use crate::refusal::TableRefusal;
 use crate::table::{Atoms, Exports, Funs, Imports, Table};
 use bk_base::{Cursor, Text, TextFault};
@@ -101,98 +100,6 @@ fn read_table<T: Entry>(alloc: Global, s: &[u8], atoms: &Atoms) -> Result<Table<
     ensures exact { GivesAll refusals.NoMemory (λ xs. xs) result (all_entries T.shape atoms.now s.now) }
 {
     all_entries(alloc, s, atoms)
-}
-
-/// An entry of a table: a record of words, some of which are atom numbers.
-pub(crate) trait Entry: Sized + Drop {
-    ghost use Rattle.index_tables.specs.Shape.{Shape, IsShape};
-
-    ghost shape: { Shape Self };
-
-    fn read(cur: &mut Cursor<'_>) -> Result<Self, TableRefusal>
-        ensures { Gives refusals.NoMemory (λ x. x) cur.new.rest result (record_at shape.of_words shape.width cur.old.rest) };
-
-    fn names_atoms(&self, atoms: &Atoms) -> bool
-        ensures { result ≡ list_all (is_atom atoms.now) (shape.atoms self.now) };
-
-    ghost is_shape: { IsShape shape };
-}
-
-impl Entry for Import {
-    ghost use Rattle.index_tables.specs.Shape.{import_shape, import_is_shape};
-
-    ghost shape = { import_shape };
-
-    ghost is_shape = { import_is_shape };
-
-    fn read(cur: &mut Cursor<'_>) -> Result<Import, TableRefusal> {
-        let module = word(cur)?;
-        let name = word(cur)?;
-        let arity = word(cur)?;
-        Ok(Import {
-            module,
-            name,
-            arity,
-        })
-    }
-
-    fn names_atoms(&self, atoms: &Atoms) -> bool {
-        atoms.name(self.module).is_some() && atoms.name(self.name).is_some()
-    }
-}
-
-impl Entry for Export {
-    ghost use Rattle.index_tables.specs.Shape.{export_shape, export_is_shape};
-
-    ghost shape = { export_shape };
-
-    ghost is_shape = { export_is_shape };
-
-    fn read(cur: &mut Cursor<'_>) -> Result<Export, TableRefusal> {
-        let name = word(cur)?;
-        let arity = word(cur)?;
-        let label = word(cur)?;
-        Ok(Export { name, arity, label })
-    }
-
-    fn names_atoms(&self, atoms: &Atoms) -> bool {
-        atoms.name(self.name).is_some()
-    }
-}
-
-impl Entry for Fun {
-    ghost use Rattle.index_tables.specs.Shape.{fun_shape, fun_is_shape};
-
-    ghost shape = { fun_shape };
-
-    ghost is_shape = { fun_is_shape };
-
-    fn read(cur: &mut Cursor<'_>) -> Result<Fun, TableRefusal> {
-        let name = word(cur)?;
-        let arity = word(cur)?;
-        let label = word(cur)?;
-        let index = word(cur)?;
-        let free = word(cur)?;
-        let unique = word(cur)?;
-        Ok(Fun {
-            name,
-            arity,
-            label,
-            index,
-            free,
-            unique,
-        })
-    }
-
-    fn names_atoms(&self, atoms: &Atoms) -> bool {
-        atoms.name(self.name).is_some()
-    }
-}
-
-fn word(cur: &mut Cursor<'_>) -> Result<u32, TableRefusal>
-    ensures { Gives refusals.NoMemory (λ n. n) cur.new.rest result (word_at cur.old.rest) }
-{
-    cur.be32().ok_or(TableRefusal::Cut)
 }
 
 fn atom_text(alloc: Global, bytes: &[u8], n: u32) -> Result<Text, TableRefusal>

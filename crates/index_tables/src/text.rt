@@ -7,12 +7,11 @@ ghost use Rattle.index_tables.specs.Atoms.{IsAtom, atom_name};
 ghost use Rattle.index_tables.specs.Entries.{NamesAtoms, import_atoms, export_atoms, fun_atoms};
 ghost use Rattle.index_tables.specs.Text.{function_text, import_text, atom_line, numbered_lines, atoms_text, imports_text, exports_text, funs_text};
 
-use crate::entry::{Export, Fun, Import};
-use crate::reading::Entry;
+use crate::entry::{Entry, Export, Fun, Import};
 use crate::table::{Atoms, Exports, Funs, Imports, Table};
 use bk_base::{Bytes, NoMemory};
 use ext_term::name_text;
-use itoa::Buffer;
+use itoa::{Buffer, Integer};
 use std::alloc::Global;
 
 /// The text of the atoms: a line `N NAME` for each, counted from 1.
@@ -66,7 +65,7 @@ impl Shown for Import {
     ghost line = { import_line };
 
     fn put_line(&self, out: &mut Bytes, number: usize, atoms: &Atoms) -> Result<(), NoMemory> {
-        put_number(out, number as u64)?;
+        put_number(out, number)?;
         out.push(b' ')?;
         put_import(out, atoms, self)?;
         out.push(b'\n')
@@ -91,7 +90,7 @@ impl Shown for Fun {
     ghost line = { fun_line };
 
     fn put_line(&self, out: &mut Bytes, number: usize, atoms: &Atoms) -> Result<(), NoMemory> {
-        put_number(out, number as u64)?;
+        put_number(out, number)?;
         out.push(b' ')?;
         put_function(out, atoms, self.name, self.arity)?;
         put_field(out, b" label ", self.label)?;
@@ -116,7 +115,7 @@ fn table_text<T: Shown>(alloc: Global, t: &Table<T>, atoms: &Atoms) -> Result<By
 fn put_atom_line(out: &mut Bytes, number: usize, name: &[u8]) -> Result<(), NoMemory>
     ensures { OnOk result (out.new.items ≡ out.old.items ++ atom_line number name.now) }
 {
-    put_number(out, number as u64)?;
+    put_number(out, number)?;
     out.push(b' ')?;
     name_text(name, out)?;
     out.push(b'\n')
@@ -151,11 +150,11 @@ fn put_field(out: &mut Bytes, label: &[u8], number: u32) -> Result<(), NoMemory>
     ensures { OnOk result (out.new.items ≡ out.old.items ++ label.now ++ decimal number) }
 {
     out.extend(label)?;
-    put_number(out, u64::from(number))
+    put_number(out, number)
 }
 
-fn put_number(out: &mut Bytes, number: u64) -> Result<(), NoMemory>
-    ensures { OnOk result (out.new.items ≡ out.old.items ++ decimal number) }
+fn put_number<I: Integer>(out: &mut Bytes, number: I) -> Result<(), NoMemory>
+    ensures { OnOk result (out.new.items ≡ out.old.items ++ I.text number) }
 {
     out.extend(Buffer::new().format(number).as_bytes())
 }
