@@ -7,9 +7,9 @@ use Rattle.std.proofs.lemmas.List.Concat.{flat_map-append}
 use Rattle.ext_term.specs.Name.{is_name_byte, is_bare, escaped, name_text, AddsFront}
 
 -- a name by its first byte and the others, which the code cuts off so
-pub is_bare-split : (name : List ℕ) → 1 ≤ length name → is_bare name ≡ is_ascii_lowercase (get_or name 0 0) && list_all is_name_byte (take (length name - 1) (drop 1 name))
-is_bare-split [] some = absurd (omega arith)
-is_bare-split (b ∷ bytes) some =
+pub bare_split : (name : List ℕ) → 1 ≤ length name → is_bare name ≡ is_ascii_lowercase (get_or name 0 0) && list_all is_name_byte (take (length name - 1) (drop 1 name))
+bare_split [] some = absurd (omega arith)
+bare_split (b ∷ bytes) some =
     let others : take (length (b ∷ bytes) - 1) bytes ≡ bytes = take_all (length (b ∷ bytes) - 1) bytes (omega arith) in
     rw others refl
 

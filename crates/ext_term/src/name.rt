@@ -27,6 +27,7 @@ pub fn name_text(name: &[u8], out: &mut Bytes) -> Result<(), NoMemory>
     out.push(b'\'')
 }
 
+#[tactic(auto, using(crate::proofs::Quoted::bare_split))]
 fn is_bare(name: &[u8]) -> bool
     ensures { result ≡ is_bare name.now }
 {
