@@ -1,9 +1,9 @@
 -- The bytes of a number are the bytes that it was read from.
-use Rattle.std.proofs.Common.{◌≡◌, ℕ, zero, suc, ◌+◌, ◌-◌, ◌*◌, ◌/◌, ◌%◌, ◌^◌, ◌<◌, ◌≤◌, List, [], ◌∷◌, ◌++◌, length, take, get_or, refl, sym, ap, ◌∙◌, arith, mul_comm, mul_assoc, mul_left_comm, mod-eq_of_lt, div-one}
+use Rattle.std.proofs.Common.{◌≡◌, ℕ, zero, suc, ◌+◌, ◌-◌, ◌*◌, ◌/◌, ◌%◌, ◌^◌, ◌<◌, ◌≤◌, List, [], ◌∷◌, length, take, get_or, refl, sym, ap, ◌∙◌, arith, mul_assoc, mod-eq_of_lt, div-one}
 use Rattle.std.proofs.Math.Nat.{mul-add-div_right, mul-add-mod_self_right, pow-suc, one-le-pow}
 use Rattle.std.proofs.lemmas.Nat.{pow-add, div-mul-add}
 use Rattle.std.specs.Int.{byte_at, bytes_high_first}
-use Rattle.byteorder.specs.Endian.{big_number, big_bytes, big_from}
+use Rattle.byteorder.specs.Endian.{big_number, big_bytes}
 use Rattle.byteorder.specs.Numbers.{big_from-cons, big_from-lt}
 use Rattle.bk_codec.specs.Spelling.{IsBytes}
 

@@ -1,6 +1,6 @@
 -- What a reading that succeeded says of its steps.
-use Rattle.std.proofs.Common.{◌≡◌, ◌⊎◌, ℕ, Bool, true, false, cond, List, [], ◌∷◌, ◌++◌, Result, Ok, Err, refl, ap, ◌∙◌, sym, inl, inr}
-use Rattle.bk_codec.specs.Reading.{◌>>=◌, giving, made_of}
+use Rattle.std.proofs.Common.{◌≡◌, ◌⊎◌, ℕ, Bool, true, false, cond, List, Result, Ok, Err, refl, ap, inl, inr}
+use Rattle.bk_codec.specs.Reading.{◌>>=◌, made_of}
 
 -- an answer, with its type
 abbrev passed : {E A : Type 0} → A → Result A E

@@ -1,10 +1,10 @@
 -- Reading values up to the end of the bytes.
-use Rattle.std.proofs.Common.{◌≡◌, ◌⊎◌, ℕ, zero, suc, ◌+◌, ◌-◌, ◌<◌, ◌≤◌, List, [], ◌∷◌, ◌++◌, length, Result, Ok, Err, refl, sym, ap, subst, ◌∙◌, append_assoc, arith, inl, inr, length-append}
+use Rattle.std.proofs.Common.{◌≡◌, ℕ, zero, suc, ◌+◌, ◌<◌, ◌≤◌, List, [], ◌∷◌, ◌++◌, length, Result, Ok, Err, refl, sym, ap, subst, ◌∙◌, append_assoc, arith, inl, inr, length-append}
 use Rattle.std.proofs.lemmas.List.{append-nil}
 use Rattle.bk_codec.specs.Reading.{◌>>=◌, all_at, whole_of, Fails}
 use Rattle.bk_codec.specs.Spelling.{IsBytes, SpellsMany}
 use Rattle.bk_codec.proofs.Steps.{bind_ok, bind_same, ok_is}
-use Rattle.bk_codec.proofs.Agreement.{Agrees, Takes}
+use Rattle.bk_codec.proofs.Agreement.{Agrees}
 
 -- each value takes at least one byte
 abbrev pub Shrinks : {E A : Type 0} → (List ℕ → Result (A × List ℕ) E) → Type 0
