@@ -2,7 +2,7 @@
 use Rattle.std.proofs.Common.{◌≡◌, ◌⊎◌, ℕ, List, [], ◌∷◌, ◌++◌, Result, Ok, Err, refl, sym, ap, subst, ◌∙◌, inl, inr}
 use Rattle.std.specs.Prelude.{IfOk}
 use Rattle.std.proofs.lemmas.List.{append-nil}
-use Rattle.bk_codec.specs.Reading.{◌>>=◌, alone, ended, GivesAll}
+use Rattle.bk_codec.specs.Reading.{alone, ended, GivesAll}
 use Rattle.bk_codec.specs.Spelling.{IsBytes}
 use Rattle.bk_codec.proofs.Steps.{bind_ok, ok_is}
 use Rattle.bk_codec.proofs.Agreement.{Agrees}

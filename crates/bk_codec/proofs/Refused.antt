@@ -1,5 +1,5 @@
 -- A reading is refused exactly where the bytes stop being the spelling of counted values.
-use Rattle.std.proofs.Common.{◌≡◌, ◌⊎◌, ℕ, zero, suc, ◌+◌, ◌-◌, ◌*◌, ◌<◌, ◌≤◌, Bool, true, false, cond, ltb, List, [], ◌∷◌, ◌++◌, length, drop, Result, Ok, Err, refl, sym, ap, subst, ◌∙◌, append_assoc, arith, inl, inr, length-append, length-drop}
+use Rattle.std.proofs.Common.{◌≡◌, ◌⊎◌, ℕ, zero, suc, ◌+◌, ◌*◌, ◌<◌, ◌≤◌, false, ltb, List, [], ◌∷◌, ◌++◌, length, drop, Result, Ok, Err, refl, sym, ap, subst, ◌∙◌, append_assoc, arith, inl, inr, length-drop}
 use Rattle.std.specs.Prelude.{IfErr}
 use Rattle.std.proofs.lemmas.Bool.{cases_lt, ltb-true, ltb-false, lt-ltb, le-ltb}
 use Rattle.byteorder.specs.Endian.{big_number}
@@ -7,7 +7,7 @@ use Rattle.bk_codec.specs.Reading.{◌>>=◌, giving, made_of, number_at, many_a
 use Rattle.bk_codec.specs.Spelling.{IsBytes, SpellsMany, SpellsWord, SpellsCounted}
 use Rattle.bk_codec.specs.Refusal.{StopsAt, GoesOn, RefusesCounted, IsDecided}
 use Rattle.bk_codec.proofs.Steps.{bind_err, made_err, guard_ok, guard_err, err_is, ok_is}
-use Rattle.bk_codec.proofs.Agreement.{Agrees, Takes, number_agrees}
+use Rattle.bk_codec.proofs.Agreement.{number_agrees}
 use Rattle.bk_codec.proofs.Counted.{AgreesByNumber, counted_agrees}
 use Rattle.bk_codec.proofs.Ended.{ended_takes, ended_again}
 

@@ -1,16 +1,16 @@
 -- Atoms are read where they are spelled.
-use Rattle.std.proofs.Common.{◌≡◌, ◌⊎◌, ℕ, ◌+◌, ◌<◌, ◌≤◌, Bool, true, false, cond, ltb, List, [], ◌∷◌, ◌++◌, length, get_or, take, drop, Result, Ok, Err, refl, sym, ap, subst, ◌∙◌, arith, inl, inr}
+use Rattle.std.proofs.Common.{◌≡◌, ℕ, ◌<◌, Bool, true, false, cond, ltb, List, [], ◌∷◌, ◌++◌, length, get_or, take, drop, Ok, Err, refl, sym, ap, subst, ◌∙◌, arith, inl, inr}
 use Rattle.std.proofs.lemmas.Bool.{ltb-true, ltb-false, lt-ltb, le-ltb, false≢true, false_from_ne_true}
 use Rattle.std.specs.Str.{IsUtf8, is_utf8}
 use Rattle.std.proofs.lemmas.Str.{IsUtf8-from_is_utf8, is_utf8-from_IsUtf8}
 use Rattle.bk_codec.specs.Reading.{◌>>=◌, giving, byte_at, bytes_at}
-use Rattle.bk_codec.specs.Spelling.{IsBytes, SpellsCounted}
+use Rattle.bk_codec.specs.Spelling.{IsBytes}
 use Rattle.bk_codec.proofs.Steps.{bind_ok, bind_err, guard_ok, guard_err, ok_is, err_is}
 use Rattle.bk_codec.proofs.Agreement.{Agrees, Takes, Takes-then, Takes-weaker, byte_agrees, bytes_agree}
 use Rattle.bk_codec.proofs.Counted.{counted_agrees, counted-fits, counted-all}
 use Rattle.bk_codec.proofs.Refused.{RefusesByNumber}
 use Rattle.index_tables.specs.declared.refusal.TableRefusal.{TableRefusal}
-use Rattle.index_tables.specs.declared.refusal.TableRefusal.TheVariants.{Cut, AtomUtf8, AtomIndex, Rest, NoMemory}
+use Rattle.index_tables.specs.declared.refusal.TableRefusal.TheVariants.{Cut, AtomUtf8}
 use Rattle.index_tables.specs.Atoms.{SpellsAtom, SpellsAtoms, FitsAtoms}
 use Rattle.index_tables.specs.Reading.{text_of, atom_at, atoms_at}
 use Rattle.index_tables.specs.Refusal.{NoAtom}

@@ -1,18 +1,15 @@
 -- Entries are read where they are spelled.
-use Rattle.std.proofs.Common.{◌≡◌, ℕ, zero, suc, ◌+◌, ◌^◌, ◌<◌, ◌≤◌, Bool, true, false, leb, ◌&&◌, cond, List, [], ◌∷◌, ◌++◌, length, get_or, All, Result, Ok, Err, refl, sym, ap, subst, ◌∙◌, arith, inl, inr}
+use Rattle.std.proofs.Common.{◌≡◌, ℕ, ◌^◌, ◌<◌, Bool, true, false, leb, cond, List, [], ◌∷◌, ◌++◌, length, All, Ok, Err, refl, sym, ap, subst, ◌∙◌, inl, inr}
 use Rattle.std.specs.List.{list_all}
 use Rattle.std.proofs.lemmas.Bool.{and_parts, leb-true, le-leb, false≢true, false_from_ne_true}
 use Rattle.std.proofs.lemmas.List.Elements.{All-nil, All-cons, All-head, All-tail}
-use Rattle.bk_codec.specs.Reading.{◌>>=◌, giving, made_of, many_at}
-use Rattle.bk_codec.specs.Spelling.{IsBytes, SpellsMany, SpellsWord, SpellsCounted}
+use Rattle.bk_codec.specs.Reading.{giving, made_of, many_at}
+use Rattle.bk_codec.specs.Spelling.{IsBytes, SpellsMany, SpellsWord}
 use Rattle.bk_codec.proofs.Steps.{bind_ok, bind_err, made_ok, made_err, ok_is, err_is}
 use Rattle.bk_codec.proofs.Agreement.{Agrees, Takes, Takes-weaker, number_agrees, many_agree}
 use Rattle.bk_codec.proofs.Counted.{counted_agrees, many-all, counted-fits, counted-all}
-use Rattle.index_tables.specs.declared.entry.Import.{Import}
-use Rattle.index_tables.specs.declared.entry.Export.{Export}
-use Rattle.index_tables.specs.declared.entry.Fun.{Fun}
 use Rattle.index_tables.specs.declared.refusal.TableRefusal.{TableRefusal}
-use Rattle.index_tables.specs.declared.refusal.TableRefusal.TheVariants.{Cut, AtomUtf8, AtomIndex, Rest, NoMemory}
+use Rattle.index_tables.specs.declared.refusal.TableRefusal.TheVariants.{Cut, AtomIndex, Rest}
 use Rattle.index_tables.specs.Atoms.{IsAtom}
 use Rattle.index_tables.specs.Entries.{NamesAtoms, FitsWords, SpellsEntry, SpellsTable}
 use Rattle.index_tables.specs.Reading.{word_at, record_at, is_atom, entry_at, entries_at}

@@ -5,7 +5,7 @@ use Rattle.bk_codec.specs.Refusal.{RefusesCounted}
 use Rattle.index_tables.specs.Atoms.{SpellsAtom, IsAtom}
 use Rattle.index_tables.specs.Entries.{SpellsEntry, import_words, import_atoms, export_words, export_atoms, fun_words, fun_atoms}
 use Rattle.index_tables.specs.declared.refusal.TableRefusal.{TableRefusal}
-use Rattle.index_tables.specs.declared.refusal.TableRefusal.TheVariants.{Cut, AtomUtf8, AtomIndex, Rest, NoMemory}
+use Rattle.index_tables.specs.declared.refusal.TableRefusal.TheVariants.{Cut, AtomUtf8, AtomIndex, Rest}
 
 -- bytes that do not begin with atom n: its length or its name is cut, or the name is there and is not UTF-8
 abbrev pub NoAtom : ℕ → List ℕ → TableRefusal → Type 0

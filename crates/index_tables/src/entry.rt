@@ -10,32 +10,42 @@ use crate::refusal::TableRefusal;
 use crate::table::Atoms;
 use bk_base::Cursor;
 
-/// A function of another module, `module:name/arity`. Both names are atom numbers.
+/// A function of another module that the module calls.
 #[derive(Clone, Copy, Debug, PartialEq, Eq)]
 pub struct Import {
+    /// The atom number of the other module's name.
     pub module: u32,
+    /// The atom number of the function's name.
     pub name: u32,
+    /// How many arguments the function takes.
     pub arity: u32,
 }
 
-/// A function of the module, `name/arity`, and the label of its entry. The name is an atom number.
+/// A function of the module, as its tables of exports and of local functions list it.
 #[derive(Clone, Copy, Debug, PartialEq, Eq)]
 pub struct Export {
+    /// The atom number of the function's name.
     pub name: u32,
+    /// How many arguments the function takes.
     pub arity: u32,
+    /// The label at which the function is entered.
     pub label: u32,
 }
 
-/// A function that funs are made of. The name is an atom number.
+/// A function of the module that funs are made of.
 #[derive(Clone, Copy, Debug, PartialEq, Eq)]
 pub struct Fun {
+    /// The atom number of the function's name.
     pub name: u32,
+    /// How many arguments the function takes.
     pub arity: u32,
-    /// The label of the function's entry.
+    /// The label at which the function is entered.
     pub label: u32,
+    /// The number that the compiler gave the fun.
     pub index: u32,
     /// How many values a fun carries with it.
     pub free: u32,
+    /// A number that the compiler made from the fun's code.
     pub unique: u32,
 }
 
@@ -47,7 +57,8 @@ pub(crate) trait Entry: Sized + Drop {
 
     /// The next entry, of which all words are read before anything else is looked at.
     fn read(cur: &mut Cursor<'_>) -> Result<Self, TableRefusal>
-        ensures { Gives refusals.NoMemory (λ x. x) cur.new.rest result (record_at shape.of_words shape.width cur.old.rest) };
+        ensures { Gives refusals.NoMemory (λ x. x) cur.new.rest result
+            (record_at shape.of_words shape.width cur.old.rest) };
 
     /// Whether each of its atom numbers is that of one of the atoms.
     fn names_atoms(&self, atoms: &Atoms) -> bool

@@ -25,7 +25,8 @@ pub fn read_atoms(alloc: Global, s: &[u8]) -> Result<Atoms, TableRefusal>
     ensures fits { IfOk result FitsAtoms }
 
     // What is spelled there is read, unless memory is wanting.
-    ensures only { (names : List (List ℕ)) → SpellsAtoms names s.now → (result ≡ Ok names) ⊎ (result ≡ Err refusals.NoMemory) }
+    ensures only { (names : List (List ℕ)) → SpellsAtoms names s.now →
+        (result ≡ Ok names) ⊎ (result ≡ Err refusals.NoMemory) }
 
     // It is refused for what stands there.
     ensures refused { IfErr result (λ e. (e ≡ refusals.NoMemory) ⊎ RefusesAtoms s.now e) }
@@ -45,9 +46,11 @@ pub fn read_imports(alloc: Global, s: &[u8], atoms: &Atoms) -> Result<Imports, T
     ensures found { IfOk result (λ xs. SpellsImports atoms.now xs s.now) }
     ensures named { IfOk result (NamesAtoms import_atoms atoms.now) }
     ensures fits { IfOk result (FitsWords import_words) }
-    ensures only { (xs : List Import) → SpellsImports atoms.now xs s.now → (result ≡ Ok xs) ⊎ (result ≡ Err refusals.NoMemory) }
+    ensures only { (xs : List Import) → SpellsImports atoms.now xs s.now →
+        (result ≡ Ok xs) ⊎ (result ≡ Err refusals.NoMemory) }
     ensures refused { IfErr result (λ e. (e ≡ refusals.NoMemory) ⊎ RefusesImports atoms.now s.now e) }
-    ensures exact { GivesAll refusals.NoMemory (λ xs. xs) result (all_entries import_shape atoms.now s.now) }
+    ensures exact { GivesAll refusals.NoMemory (λ xs. xs) result
+        (all_entries import_shape atoms.now s.now) }
 {
     read_table(alloc, s, atoms)
 }
@@ -58,9 +61,11 @@ pub fn read_exports(alloc: Global, s: &[u8], atoms: &Atoms) -> Result<Exports, T
     ensures found { IfOk result (λ xs. SpellsExports atoms.now xs s.now) }
     ensures named { IfOk result (NamesAtoms export_atoms atoms.now) }
     ensures fits { IfOk result (FitsWords export_words) }
-    ensures only { (xs : List Export) → SpellsExports atoms.now xs s.now → (result ≡ Ok xs) ⊎ (result ≡ Err refusals.NoMemory) }
+    ensures only { (xs : List Export) → SpellsExports atoms.now xs s.now →
+        (result ≡ Ok xs) ⊎ (result ≡ Err refusals.NoMemory) }
     ensures refused { IfErr result (λ e. (e ≡ refusals.NoMemory) ⊎ RefusesExports atoms.now s.now e) }
-    ensures exact { GivesAll refusals.NoMemory (λ xs. xs) result (all_entries export_shape atoms.now s.now) }
+    ensures exact { GivesAll refusals.NoMemory (λ xs. xs) result
+        (all_entries export_shape atoms.now s.now) }
 {
     read_table(alloc, s, atoms)
 }
@@ -71,9 +76,11 @@ pub fn read_locals(alloc: Global, s: &[u8], atoms: &Atoms) -> Result<Exports, Ta
     ensures found { IfOk result (λ xs. SpellsExports atoms.now xs s.now) }
     ensures named { IfOk result (NamesAtoms export_atoms atoms.now) }
     ensures fits { IfOk result (FitsWords export_words) }
-    ensures only { (xs : List Export) → SpellsExports atoms.now xs s.now → (result ≡ Ok xs) ⊎ (result ≡ Err refusals.NoMemory) }
+    ensures only { (xs : List Export) → SpellsExports atoms.now xs s.now →
+        (result ≡ Ok xs) ⊎ (result ≡ Err refusals.NoMemory) }
     ensures refused { IfErr result (λ e. (e ≡ refusals.NoMemory) ⊎ RefusesExports atoms.now s.now e) }
-    ensures exact { GivesAll refusals.NoMemory (λ xs. xs) result (all_entries export_shape atoms.now s.now) }
+    ensures exact { GivesAll refusals.NoMemory (λ xs. xs) result
+        (all_entries export_shape atoms.now s.now) }
 {
     read_table(alloc, s, atoms)
 }
@@ -84,9 +91,11 @@ pub fn read_funs(alloc: Global, s: &[u8], atoms: &Atoms) -> Result<Funs, TableRe
     ensures found { IfOk result (λ xs. SpellsFuns atoms.now xs s.now) }
     ensures named { IfOk result (NamesAtoms fun_atoms atoms.now) }
     ensures fits { IfOk result (FitsWords fun_words) }
-    ensures only { (xs : List Fun) → SpellsFuns atoms.now xs s.now → (result ≡ Ok xs) ⊎ (result ≡ Err refusals.NoMemory) }
+    ensures only { (xs : List Fun) → SpellsFuns atoms.now xs s.now →
+        (result ≡ Ok xs) ⊎ (result ≡ Err refusals.NoMemory) }
     ensures refused { IfErr result (λ e. (e ≡ refusals.NoMemory) ⊎ RefusesFuns atoms.now s.now e) }
-    ensures exact { GivesAll refusals.NoMemory (λ xs. xs) result (all_entries fun_shape atoms.now s.now) }
+    ensures exact { GivesAll refusals.NoMemory (λ xs. xs) result
+        (all_entries fun_shape atoms.now s.now) }
 {
     read_table(alloc, s, atoms)
 }
@@ -95,9 +104,12 @@ fn read_table<T: Entry>(alloc: Global, s: &[u8], atoms: &Atoms) -> Result<Table<
     ensures found { IfOk result (λ xs. SpellsTable T.shape.words T.shape.atoms atoms.now xs s.now) }
     ensures named { IfOk result (NamesAtoms T.shape.atoms atoms.now) }
     ensures fits { IfOk result (FitsWords T.shape.words) }
-    ensures only { (xs : List T) → SpellsTable T.shape.words T.shape.atoms atoms.now xs s.now → (result ≡ Ok xs) ⊎ (result ≡ Err refusals.NoMemory) }
-    ensures refused { IfErr result (λ e. (e ≡ refusals.NoMemory) ⊎ RefusesTable T.shape.width T.shape.words T.shape.atoms atoms.now s.now e) }
-    ensures exact { GivesAll refusals.NoMemory (λ xs. xs) result (all_entries T.shape atoms.now s.now) }
+    ensures only { (xs : List T) → SpellsTable T.shape.words T.shape.atoms atoms.now xs s.now →
+        (result ≡ Ok xs) ⊎ (result ≡ Err refusals.NoMemory) }
+    ensures refused { IfErr result (λ e. (e ≡ refusals.NoMemory) ⊎
+        RefusesTable T.shape.width T.shape.words T.shape.atoms atoms.now s.now e) }
+    ensures exact { GivesAll refusals.NoMemory (λ xs. xs) result
+        (all_entries T.shape atoms.now s.now) }
 {
     all_entries(alloc, s, atoms)
 }
@@ -122,7 +134,8 @@ fn next_atom(alloc: Global, cur: &mut Cursor<'_>, n: u32) -> Result<Text, TableR
 }
 
 fn atoms(alloc: Global, cur: &mut Cursor<'_>, count: u32) -> Result<Atoms, TableRefusal>
-    ensures { Gives refusals.NoMemory (λ names. names) cur.new.rest result (numbered_at atom_at 1 count cur.old.rest) }
+    ensures { Gives refusals.NoMemory (λ names. names) cur.new.rest result
+        (numbered_at atom_at 1 count cur.old.rest) }
 {
     let mut names = Table::new(alloc);
     for i in 0..count {
@@ -133,7 +146,8 @@ fn atoms(alloc: Global, cur: &mut Cursor<'_>, count: u32) -> Result<Atoms, Table
 }
 
 fn next_entry<T: Entry>(cur: &mut Cursor<'_>, atoms: &Atoms, i: u32) -> Result<T, TableRefusal>
-    ensures { Gives refusals.NoMemory (λ x. x) cur.new.rest result (entry_at T.shape atoms.now i cur.old.rest) }
+    ensures { Gives refusals.NoMemory (λ x. x) cur.new.rest result
+        (entry_at T.shape atoms.now i cur.old.rest) }
 {
     let entry = T::read(cur)?;
     if !entry.names_atoms(atoms) {
@@ -148,7 +162,8 @@ fn entries<T: Entry>(
     atoms: &Atoms,
     count: u32,
 ) -> Result<Table<T>, TableRefusal>
-    ensures { Gives refusals.NoMemory (λ xs. xs) cur.new.rest result (numbered_at (entry_at T.shape atoms.now) 0 count cur.old.rest) }
+    ensures { Gives refusals.NoMemory (λ xs. xs) cur.new.rest result
+        (numbered_at (entry_at T.shape atoms.now) 0 count cur.old.rest) }
 {
     let mut entries = Table::new(alloc);
     for i in 0..count {

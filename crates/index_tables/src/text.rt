@@ -1,7 +1,6 @@
 //! The tables as text.
 
-ghost use Rattle.std.specs.Prelude.{◌≡◌, ◌++◌, ◌<◌, ◌^◌, ℕ, List, All, IfOk, OnOk, decimal};
-ghost use Rattle.std.specs.List.{flat_map};
+ghost use Rattle.std.specs.Prelude.{◌≡◌, ◌++◌, ℕ, List, All, IfOk, OnOk, decimal};
 ghost use Rattle.ext_term.specs.Name.{name_text};
 ghost use Rattle.index_tables.specs.Atoms.{IsAtom, atom_name};
 ghost use Rattle.index_tables.specs.Entries.{NamesAtoms, import_atoms, export_atoms, fun_atoms};

@@ -1,7 +1,5 @@
-use Rattle.std.proofs.Common.{◌≡◌, ◌++◌, ◌∷◌, [], ◌∙◌, sym, take}
-use Rattle.std.specs.List.{flat_map}
+use Rattle.std.proofs.Common.{◌∙◌, sym}
 use Rattle.std.proofs.lemmas.Result.{err_from_is_err_and, on_err_weaker}
-use Rattle.ext_term.specs.Name.{escaped, AddsFront, name_text}
 use Rattle.ext_term.proofs.Quoted.{part_added}
 use Rattle.ext_term.proofs.name.name_text.Goals as goal
 

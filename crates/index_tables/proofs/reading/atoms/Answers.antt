@@ -1,4 +1,4 @@
-use Rattle.std.proofs.Common.{◌≡◌, ◌+◌, suc, refl, arith}
+use Rattle.std.proofs.Common.{◌+◌, arith}
 use Rattle.bk_codec.specs.Reading.{numbered_at}
 use Rattle.bk_codec.proofs.Counted.{counts_on}
 use Rattle.index_tables.specs.Reading.{atom_at}

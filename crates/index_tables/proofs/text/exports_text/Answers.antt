@@ -1,5 +1,5 @@
 use Rattle.std.proofs.Common.{◌≡◌, ◌∙◌}
-use Rattle.std.proofs.lemmas.Result.{IfOk-equal, IfOk-weaker}
+use Rattle.std.proofs.lemmas.Result.{IfOk-weaker}
 use Rattle.index_tables.specs.Text.{export_line, numbered_lines, exports_text}
 use Rattle.index_tables.proofs.Lines.{lines-plain}
 use Rattle.index_tables.proofs.text.exports_text.Goals as goal
