@@ -242,6 +242,61 @@ fn tables_are_shown_or_refused(rt: HostRuntime) -> Result<(), Fail> {
     )
 }
 
+// Lists the form of one chunk of code, and compares the status, the output and the message.
+fn lists(
+    rt: &(impl Abort + AllocGlobal),
+    code: &[u8],
+    status: u8,
+    output: &str,
+    message: &str,
+) -> Result<(), Fail> {
+    let file = form(rt.alloc(), &[(b"Code", code)])?;
+    let found = call(rt.alloc(), &["disasm", "F"], file.as_slice(), 1000)?;
+    assert_eq!(rt; found.status.code(), status, "at {message}");
+    assert_eq!(rt; found.out.written(), output.as_bytes(), "at {message}");
+    let mut line = String::new(rt.alloc());
+    if status != 0 {
+        write!(line, "beamkit: F: {message}\n")?;
+    }
+    assert_eq!(rt; found.err.written(), line.as_bytes(), "at {message}");
+    Ok(())
+}
+
+#[test]
+fn code_is_listed_or_refused(rt: HostRuntime) -> Result<(), Fail> {
+    let whole = call(rt.alloc(), &["disasm", "F"], SAMPLE, 1000)?;
+    let listing = "beam 1\nchunk AtU8\n  00000001016d\ncode 3 1 0 -\n  int_code_end\nchunk StrT\n";
+    assert_eq!(rt; whole.out.written(), listing.as_bytes());
+    let head = b"\0\0\0\x10\0\0\0\0\0\0\0\x03\0\0\0\x01\0\0\0\0";
+    let mut code = Vec::new(rt.alloc());
+    code.extend_from_slice(head)?;
+    code.extend_from_slice(b"\x40\x03\x0b\x01\x40\xf9\x80")?;
+    code.extend_from_slice(
+        b"\x01\x02\x03\x04\x05\x06\x07\x08\x09\x0a\x0b\x0c\x0d\x0e\x0f\x10\x11\x57\x03\x70",
+    )?;
+    let moves =
+        "beam 1\ncode 3 1 0 -\n  move x0 x1\n  move w0102030405060708090a0b0c0d0e0f1011 x0/7\n";
+    lists(&rt, code.as_slice(), 0, moves, "")?;
+    lists(&rt, b"", 3, "", "Code: header")?;
+    for (op, message) in [(183, "Code: opcode 183 at 20"), (0, "Code: opcode 0 at 20")] {
+        code.truncate(20);
+        code.push(op)?;
+        lists(&rt, code.as_slice(), 3, "", message)?;
+    }
+    code.truncate(20);
+    code.extend_from_slice(b"\x40\x03\x18\xff\xff")?;
+    lists(
+        &rt,
+        code.as_slice(),
+        3,
+        "",
+        "Code: operand at 22: negative, tag 0",
+    )?;
+    code.truncate(20);
+    code.extend_from_slice(b"\x40\x17\xf8\0\0\xff\xff\xff\xff\xff\xff\xff\xff")?;
+    lists(&rt, code.as_slice(), 3, "", "Code: operand at 21: cut")
+}
+
 #[test]
 fn faults_and_limits_have_their_status(rt: HostRuntime) -> Result<(), Fail> {
     let alloc = rt.alloc();
