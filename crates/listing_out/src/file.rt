@@ -1,19 +1,45 @@
 //! The listing of a file.
 
-ghost use Rattle.std.specs.Prelude.{◌≡◌, IfOk};
-ghost use Rattle.listing_out.specs.Lines.{listing_of};
+ghost use Rattle.std.specs.Prelude.{◌≡◌, ◌++◌, IfOk, OnOk};
+ghost use Rattle.listing_out.specs.Lines.{chunk_lines, listing_of, text_of};
 
-use beam_module::FileVal;
+use crate::code::put_code;
+use crate::payload::put_payload;
+use beam_module::{ChunkVal, FileVal};
 use bk_base::{Bytes, NoMemory};
+use iff_form::{Id, IdText};
 use std::alloc::Global;
 
-/// The listing of a file: the line `beam 1`, and for each chunk in order its lines.
+/// The listing of a file: the line `beam 1`, and then the lines of each chunk in order, each line
+/// with a newline.
 ///
-/// A payload is a line `chunk ID` and lines of two spaces and up to 32 bytes in hexadecimal. Code is
-/// a line `code H L F E` with the highest opcode, the counts of labels and functions and the extra
-/// bytes of the sub-header in hexadecimal or `-` for none, and a line for each instruction.
+/// A payload is a line `chunk ID`, and lines of two spaces and 32 bytes in hexadecimal, the last one
+/// with the rest; an empty payload has none. Code is a line `code H L F E` with the highest opcode,
+/// the counts of labels and of functions, and the extra bytes of the sub-header in hexadecimal or
+/// `-` for none, and a line of two spaces, the name and the operands for each instruction.
+///
+/// It fails only where memory is wanting.
 pub fn listing(alloc: Global, v: &FileVal) -> Result<Bytes, NoMemory>
     ensures { IfOk result (λ text. text.items ≡ listing_of v.now) }
 {
-    Err(NoMemory)
+    let mut out = Bytes::new(alloc);
+    out.extend(b"beam 1\n")?;
+    for chunk in v.as_slice() {
+        put_chunk(&mut out, chunk)?;
+    }
+    Ok(out)
+}
+
+fn put_chunk(out: &mut Bytes, chunk: &(Id, ChunkVal)) -> Result<(), NoMemory>
+    ensures { OnOk result (out.new.items ≡ out.old.items ++ text_of (chunk_lines chunk.now)) }
+{
+    match &chunk.1 {
+        ChunkVal::Code(code) => put_code(out, code),
+        ChunkVal::Raw(payload) => {
+            out.extend(b"chunk ")?;
+            out.extend(IdText::new(chunk.0).as_bytes())?;
+            out.push(b'\n')?;
+            put_payload(out, payload.as_slice())
+        }
+    }
 }

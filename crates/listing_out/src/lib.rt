@@ -1,6 +1,14 @@
 //! The listing of a file, from which the file can be built again.
 #![tactic(auto)]
 
+mod code;
 mod file;
+mod number;
+mod operand;
+mod payload;
 
 pub use file::listing;
+
+
+#[cfg(test)]
+mod tests;

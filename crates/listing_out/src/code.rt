@@ -1,0 +1,61 @@
+//! The lines of code.
+
+ghost use Rattle.std.specs.Prelude.{◌≡◌, ◌∷◌, ◌++◌, map, OnOk};
+ghost use Rattle.op_table.specs.Table.{row_with};
+ghost use Rattle.listing_out.specs.Lines.{name_of, extra_text, code_line, instruction_line, text_of};
+
+use crate::number::{put_hex, put_number};
+use crate::operand::put_operand;
+use bk_base::{Bytes, NoMemory};
+use code_chunk::CodeVal;
+use op_table::{Instr, op_row};
+
+pub(crate) fn put_code(out: &mut Bytes, code: &CodeVal) -> Result<(), NoMemory>
+    ensures { OnOk result (out.new.items ≡ out.old.items ++ text_of (code_line code.now ∷ map instruction_line code.now.instrs)) }
+{
+    put_header(out, code)?;
+    out.push(b'\n')?;
+    for instr in code.instrs.as_slice() {
+        put_instruction(out, instr)?;
+        out.push(b'\n')?;
+    }
+    Ok(())
+}
+
+fn put_header(out: &mut Bytes, code: &CodeVal) -> Result<(), NoMemory>
+    ensures { OnOk result (out.new.items ≡ out.old.items ++ code_line code.now) }
+{
+    put_number(out, b"code ", code.max_op)?;
+    put_number(out, b" ", code.labels)?;
+    put_number(out, b" ", code.functions)?;
+    out.push(b' ')?;
+    put_extra(out, code.extra.as_slice())
+}
+
+fn put_extra(out: &mut Bytes, extra: &[u8]) -> Result<(), NoMemory>
+    ensures { OnOk result (out.new.items ≡ out.old.items ++ extra_text extra.now) }
+{
+    match extra {
+        [] => out.push(b'-'),
+        _ => put_hex(out, extra),
+    }
+}
+
+fn put_instruction(out: &mut Bytes, instr: &Instr) -> Result<(), NoMemory>
+    ensures { OnOk result (out.new.items ≡ out.old.items ++ instruction_line instr.now) }
+{
+    out.extend(b"  ")?;
+    put_name(out, instr)?;
+    for operand in instr.operands().as_slice() {
+        out.push(b' ')?;
+        put_operand(out, operand)?;
+    }
+    Ok(())
+}
+
+fn put_name(out: &mut Bytes, instr: &Instr) -> Result<(), NoMemory>
+    ensures { OnOk result (out.new.items ≡ out.old.items ++ name_of (row_with instr.now.op)) }
+{
+    let row = op_row(instr.op()).unwrap();
+    out.extend(row.name.as_bytes())
+}

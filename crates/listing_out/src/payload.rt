@@ -1,0 +1,29 @@
+//! The lines of a payload.
+
+ghost use Rattle.std.specs.Prelude.{◌≡◌, ◌++◌, ◌≤◌, codes, length, OnOk};
+ghost use Rattle.hex.specs.Hex.{encode_lower};
+ghost use Rattle.listing_out.specs.Lines.{payload_lines, text_of};
+
+use crate::number::{ROW, put_row};
+use bk_base::{Bytes, NoMemory};
+
+pub(crate) fn put_payload(out: &mut Bytes, payload: &[u8]) -> Result<(), NoMemory>
+    ensures { OnOk result (out.new.items ≡ out.old.items ++ text_of (payload_lines payload.now)) }
+{
+    for row in payload.chunks(ROW) {
+        match put_payload_line(out, row) {
+            Ok(()) => {}
+            Err(e) => return Err(e),
+        }
+    }
+    Ok(())
+}
+
+fn put_payload_line(out: &mut Bytes, row: &[u8]) -> Result<(), NoMemory>
+    requires { length row.now ≤ 32 }
+    ensures { OnOk result (out.new.items ≡ out.old.items ++ ((codes "  " ++ encode_lower row.now) ++ codes "\n")) }
+{
+    out.extend(b"  ")?;
+    put_row(out, row)?;
+    out.push(b'\n')
+}
