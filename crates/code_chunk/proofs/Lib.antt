@@ -1,1 +1,4 @@
 pub mod Shrinking
+pub mod Instrs
+pub mod Headers
+pub mod Codes
