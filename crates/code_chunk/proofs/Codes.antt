@@ -120,8 +120,17 @@ spelt_code c bytes is =
     let labels_is : big_number 4 (drop 8 header) ≡ c.labels = ap (big_number 4) drop8 ∙ word_value c.labels labels.front behind12 labels.front_is in
     let functions_is : big_number 4 (drop 12 header) ≡ c.functions = ap (big_number 4) drop12 ∙ word_value c.functions functions.front c.extra functions.front_is in
     let size : length header ≡ 16 + length c.extra =
-    omega (arith, length-append format.front behind4, length-append max_op.front behind8, length-append labels.front behind12, length-append functions.front c.extra,
-      word_length 0 format.front format.front_is, word_length c.max_op max_op.front max_op.front_is, word_length c.labels labels.front labels.front_is, word_length c.functions functions.front functions.front_is) in
+    omega (
+      arith,
+      length-append format.front behind4,
+      length-append max_op.front behind8,
+      length-append labels.front behind12,
+      length-append functions.front c.extra,
+      word_length 0 format.front format.front_is,
+      word_length c.max_op max_op.front max_op.front_is,
+      word_length c.labels labels.front labels.front_is,
+      word_length c.functions functions.front functions.front_is,
+    ) in
     let left : is.back ≡ header ++ extra.back =
     format.joined ∙ ap (λ (t : List ℕ). format.front ++ t)
     (max_op.joined ∙ ap (λ (t : List ℕ). max_op.front ++ t)

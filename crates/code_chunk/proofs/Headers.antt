@@ -24,12 +24,12 @@ sized_takes size bytes header rest fits e =
     let g = guard_ok (ltb size 16) Header (bytes_at Header size bytes) (header, rest) e in
     (ltb-false _ _ g.0, (bytes_agree Header size).takes bytes header rest fits g.1)
 
-of_format_ok : (header bytes h rest : List ℕ) → of_format header bytes ≡ Ok (h, rest) → (big_number 4 header ≡ 0) × (header ≡ h) × (bytes ≡ rest)
+pub of_format_ok : (header bytes h rest : List ℕ) → of_format header bytes ≡ Ok (h, rest) → (big_number 4 header ≡ 0) × (header ≡ h) × (bytes ≡ rest)
 of_format_ok header bytes h rest e =
     elim (cases_eq (big_number 4 header) 0) [
       | inl zero_is ↦
-        let same = ok_is {E = CodeRefusal} (header, bytes) (h, rest) (rw (eq-eqb _ _ zero_is) at e) in
-        (zero_is, ap (λ (q : List ℕ × List ℕ). q.0) same, ap (λ (q : List ℕ × List ℕ). q.1) same)
+          let same = ok_is {E = CodeRefusal} (header, bytes) (h, rest) (rw (eq-eqb _ _ zero_is) at e) in
+          (zero_is, ap (λ (q : List ℕ × List ℕ). q.0) same, ap (λ (q : List ℕ × List ℕ). q.1) same)
       | inr other ↦ let none = rw (ne_eqb _ _ other) at e in absurd cc
     ]
 

@@ -24,8 +24,8 @@ loop-preserved c =
     subst (λ (size : ℕ). operand_in size c.loop.cur.rest ≡ Ok (c.in_ok-operand.operand, c.operand.new.cur.rest)) c.loop.invariant.same c.in_ok-operand.ensures.read in
     record {
       read =
-        rw c.in_ok-push.ensures.ok
-        (goes_on one c.loop.list c.args.arity c.loop.counter c.loop.cur.rest c.operand.new.cur.rest c.in_ok-operand.operand (many_at one c.args.arity c.args.cur.now.rest) c.loop-test.true read c.loop.invariant.read);
+          rw c.in_ok-push.ensures.ok
+          (goes_on one c.loop.list c.args.arity c.loop.counter c.loop.cur.rest c.operand.new.cur.rest c.in_ok-operand.operand (many_at one c.args.arity c.args.cur.now.rest) c.loop-test.true read c.loop.invariant.read);
       same = c.in_ok-operand.ensures.end ∙ c.loop.invariant.same;
     }
 
