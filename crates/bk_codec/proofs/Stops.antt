@@ -27,7 +27,7 @@ stops_later x bytes after e took s = record {
   refused = s.refused;
 }
 
-made_err : {E A B : Type 0} (f : A → B) (r : Result (A × List ℕ) E) (e : E) → made_of f r ≡ Err e → r ≡ Err e
+pub made_err : {E A B : Type 0} (f : A → B) (r : Result (A × List ℕ) E) (e : E) → made_of f r ≡ Err e → r ≡ Err e
 made_err f (Ok x) e h = absurd cc
 made_err f (Err d) e h = let same : d ≡ e = cc in ap (λ (z : _). Err z) same
 

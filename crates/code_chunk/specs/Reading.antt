@@ -35,12 +35,20 @@ unfoldable pub instr_at : ℕ → List ℕ → Result (Instruction × List ℕ) 
 instr_at size [] = Err refusals.Header
 instr_at size (op ∷ bytes) = instr_with size op (arity_of op) bytes
 
--- the bytes of the sub-header, before which stands their number, with 0 in the first word
+-- a sub-header of this size
+abbrev pub sized_at : ℕ → List ℕ → Result (List ℕ × List ℕ) CodeRefusal
+sized_at size bytes = if nat_lt size 16 then Err refusals.Header else bytes_at refusals.Header size bytes
+
+-- its format stands in its first word
+abbrev pub of_format : List ℕ → List ℕ → Result (List ℕ × List ℕ) CodeRefusal
+of_format header bytes = if big_number 4 header == 0 then giving header bytes else Err refusals.Header
+
+-- the bytes of the sub-header, before which stands their number
 unfoldable pub header_at : List ℕ → Result (List ℕ × List ℕ) CodeRefusal
 header_at bytes = do
   size ← number_at refusals.Header 4 bytes
-  header ← if nat_lt size.0 16 then Err refusals.Header else bytes_at refusals.Header size.0 size.1
-  if big_number 4 header.0 == 0 then giving header.0 header.1 else Err refusals.Header
+  header ← sized_at size.0 size.1
+  of_format header.0 header.1
 
 -- what the words of a sub-header say, its extra bytes, and the instructions
 abbrev pub code_of : List ℕ → List Instruction → CodeVal

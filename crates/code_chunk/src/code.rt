@@ -3,6 +3,9 @@
 ghost use Rattle.std.specs.Prelude.{◌≡◌, ◌≤◌, ◌⊎◌, length, IfOk, IfErr, Ok, Err};
 ghost use Rattle.bk_codec.specs.Reading.{Gives, GivesAll};
 ghost use Rattle.code_chunk.specs.declared.code.CodeVal.{CodeVal};
+ghost use Rattle.code_chunk.specs.Spelling.{SpellsCode};
+ghost use Rattle.code_chunk.specs.Code.{IsCode};
+ghost use Rattle.code_chunk.specs.Stop.{IsWrong};
 ghost use Rattle.code_chunk.specs.Reading.{end_of, header_at, code_at};
 
 use crate::instructions::{InstrList, instructions};
@@ -46,8 +49,9 @@ fn sub_header<'a>(cur: &mut Cursor<'a>) -> Result<&'a [u8], CodeRefusal>
     Ok(header)
 }
 
+// What the whole payload holds, read from the left.
 #[tactic(auto, unfolding(crate::specs::Reading::code_at))]
-pub fn read_code(alloc: Global, s: &[u8]) -> Result<CodeVal, CodeRefusal>
+fn whole_code(alloc: Global, s: &[u8]) -> Result<CodeVal, CodeRefusal>
     ensures { GivesAll CodeRefusal.NoMemory (λ c. c) result (code_at s.now) }
 {
     let mut cur = Cursor::new(s);
@@ -60,4 +64,23 @@ pub fn read_code(alloc: Global, s: &[u8]) -> Result<CodeVal, CodeRefusal>
         functions: BigEndian::read_u32(&header[12..]),
         instrs,
     })
+}
+
+/// What the payload of a code chunk holds.
+///
+/// An opcode or an operand is refused at the end of the longest front of whole instructions: the
+/// opcode that stands there, or the first of its operands that is none.
+pub fn read_code(alloc: Global, s: &[u8]) -> Result<CodeVal, CodeRefusal>
+    // What was read is spelled by the payload.
+    ensures found { IfOk result (λ c. SpellsCode c s.now) }
+    ensures proper { IfOk result IsCode }
+
+    // What the payload spells is read, unless memory runs out.
+    ensures only { (c : CodeVal) → SpellsCode c s.now → (result ≡ Ok c) ⊎ (result ≡ Err CodeRefusal.NoMemory) }
+
+    // What is wrong with the payload, and what it reads from the left.
+    ensures wrong { IfErr result (λ e. IsWrong e s.now) }
+    ensures read { GivesAll CodeRefusal.NoMemory (λ c. c) result (code_at s.now) }
+{
+    whole_code(alloc, s)
 }

@@ -90,7 +90,7 @@ fn operands(alloc: Global, cur: &mut Cursor<'_>, arity: u8) -> Result<OperandLis
     ensures read { Gives CodeRefusal.NoMemory (λ os. os) cur.new.rest result (many_at (operand_in (end_of cur.old)) arity cur.old.rest) }
     ensures end { end_of cur.new ≡ end_of cur.old }
 {
-    let mut list = OperandList::new(alloc);
+    let mut list = OperandList::with_capacity(alloc, usize::from(arity))?;
     for _ in 0..arity {
         let operand = operand(alloc, cur)?;
         list.push(operand)?;

@@ -3,8 +3,13 @@
 
 mod code;
 mod instructions;
+mod laws;
 mod refusal;
 
 pub use code::{CodeVal, read_code};
 pub use instructions::InstrList;
+pub use laws::{one_code, one_instr_form, one_stop};
 pub use refusal::CodeRefusal;
+
+#[cfg(test)]
+mod tests;

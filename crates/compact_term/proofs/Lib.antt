@@ -5,3 +5,4 @@ pub mod Operands
 pub mod Proper
 pub mod Fronts
 pub mod Keeping
+pub mod Memory

@@ -79,7 +79,7 @@ plain_proper (plains.Typed r n) bytes fits is = (reg_proper r is.back_is.front i
 pair_proper : (p : ℕ × ℕ) (bytes : List ℕ) → IsBytes bytes → SpellsPair p bytes → IsPair p
 pair_proper p bytes fits is = (is.front_is.1, is.back_is.1)
 
-many_proper : {A : Type 0} (R : A → List ℕ → Type 0) (P : A → Type 0) → ((x : A) (bytes : List ℕ) → IsBytes bytes → R x bytes → P x)
+pub many_proper : {A : Type 0} (R : A → List ℕ → Type 0) (P : A → Type 0) → ((x : A) (bytes : List ℕ) → IsBytes bytes → R x bytes → P x)
     → (xs : List A) (bytes : List ℕ) → IsBytes bytes → SpellsMany R xs bytes → All P xs
 many_proper R P one [] bytes fits is = All-nil P
 many_proper R P one (x ∷ xs) bytes fits is =

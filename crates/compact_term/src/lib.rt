@@ -1,6 +1,7 @@
 //! The operands of instructions in their compact form, which BEAM files have in `Code` and elsewhere.
 #![tactic(auto)]
 
+mod integer;
 mod laws;
 mod list;
 mod number;
@@ -8,6 +9,7 @@ mod operand;
 mod reader;
 mod refusal;
 
+pub use integer::{Integer, WideInteger};
 pub use laws::one_form;
 pub use list::{PairList, PlainList};
 pub use operand::{Operand, Plain, Reg};

@@ -4,17 +4,16 @@ ghost use Rattle.std.specs.Prelude.{◌≡◌, ◌↔◌, [], ◌∷◌, ◌++�
 
 use crate::operand::Plain;
 use bk_base::NoMemory;
-use smallvec::SmallVec;
 use std::alloc::Global;
 use std::marker::Model;
 
 /// The members of a list operand, in order.
 ///
-/// None stands in the value itself: a place for one would make each operand of each instruction
-/// larger by two thirds, and few operands are lists.
+/// They stand in an allocation of their own: few operands are lists, and places for members would
+/// make each operand of each instruction larger.
 #[derive(Debug, Drop)]
 pub struct PlainList {
-    members: SmallVec<Plain, 0>,
+    members: Vec<Plain>,
 }
 
 impl Model for PlainList {
@@ -32,7 +31,7 @@ impl PlainList {
         ensures { result ≡ [] }
     {
         PlainList {
-            members: SmallVec::new(alloc),
+            members: Vec::new(alloc),
         }
     }
 
@@ -49,7 +48,7 @@ impl PlainList {
     pub fn get(&self, i: usize) -> Option<&Plain>
         ensures { option_copied result ≡ slice_get self.now i }
     {
-        self.members.as_slice().get(i)
+        self.members.get(i)
     }
 
     /// The members.
@@ -77,7 +76,7 @@ impl PlainList {
 /// The pairs of an allocation list, each a kind and an amount, in order.
 #[derive(Debug, Drop)]
 pub struct PairList {
-    pairs: SmallVec<(u64, u64), 1>,
+    pairs: Vec<(u64, u64)>,
 }
 
 impl Model for PairList {
@@ -94,7 +93,7 @@ impl PairList {
         ensures { result ≡ [] }
     {
         PairList {
-            pairs: SmallVec::new(alloc),
+            pairs: Vec::new(alloc),
         }
     }
 
@@ -111,7 +110,7 @@ impl PairList {
     pub fn get(&self, i: usize) -> Option<&(u64, u64)>
         ensures { option_copied result ≡ slice_get self.now i }
     {
-        self.pairs.as_slice().get(i)
+        self.pairs.get(i)
     }
 
     /// The pairs.

@@ -1,7 +1,7 @@
 //! What operands are.
 
+use crate::integer::{Integer, WideInteger};
 use crate::list::{PairList, PlainList};
-use bk_base::ByteList;
 
 /// A register of the machine.
 #[derive(Clone, Copy, Debug, PartialEq, Eq)]
@@ -18,9 +18,9 @@ pub enum Plain {
     /// A number without sign.
     U(u64),
     /// An integer of at most 16 bytes.
-    I(i128),
-    /// The bytes of an integer of 17 bytes or more, in two's complement, the highest first.
-    Wide(ByteList),
+    I(Integer),
+    /// An integer of 17 bytes or more.
+    Wide(WideInteger),
     /// The number of an atom; 0 is the empty list.
     A(u32),
     X(u32),

@@ -7,6 +7,7 @@ ghost use Rattle.compact_term.specs.Spelling.{Spells};
 ghost use Rattle.compact_term.specs.Operand.{IsOperand};
 ghost use Rattle.compact_term.specs.Reading.{below_at, integer_at, u_at, reg_at, extended_by, tagged, head_at, member_at, pair_at, operand_at, Begins, Reads};
 
+use crate::integer::{Integer, WideInteger};
 use crate::list::{PairList, PlainList};
 use crate::number::{LONG, MOST_BYTES, at_most, length, long, short};
 use crate::operand::{Operand, Plain, Reg};
@@ -29,15 +30,16 @@ fn integer(alloc: Global, cur: &mut Cursor<'_>, first: u8) -> Result<Plain, Oper
 {
     if first < LONG {
         let z = short(cur, first)?;
-        return Ok(Plain::I(i128::from(z)));
+        return Ok(Plain::I(Integer::from(i128::from(z))));
     }
     let n = length(cur)?;
     if n > MOST_BYTES {
         let bytes = cur.take(n as usize).ok_or(OperandRefusal::Cut)?;
-        return Ok(Plain::Wide(ByteList::from_slice(alloc, bytes)?));
+        let list = ByteList::from_slice(alloc, bytes)?;
+        return Ok(Plain::Wide(WideInteger::new(alloc, list)?));
     }
     let z = long(cur, n)?;
-    Ok(Plain::I(z))
+    Ok(Plain::I(Integer::from(z)))
 }
 
 // A term of tag `u`.

@@ -1,6 +1,6 @@
 //! Instructions.
 
-ghost use Rattle.std.specs.Prelude.{◌≡◌, ◌↔◌, [], ◌∷◌, ◌++◌, Some, length, slice_get, IsTrue, OnOk, OnErr, option_copied};
+ghost use Rattle.std.specs.Prelude.{◌≡◌, ◌↔◌, [], ◌∷◌, ◌++◌, Some, length, slice_get, IsTrue, IfOk, OnOk, OnErr, option_copied};
 ghost use Rattle.op_table.specs.Table.{arity_of};
 
 use bk_base::NoMemory;
@@ -33,6 +33,15 @@ impl OperandList {
         OperandList {
             operands: SmallVec::new(alloc),
         }
+    }
+
+    /// No operands, and room for `n`. Memory is taken for more than three.
+    pub fn with_capacity(alloc: Global, n: usize) -> Result<OperandList, NoMemory>
+        ensures { IfOk result (λ l. l ≡ []) }
+    {
+        Ok(OperandList {
+            operands: SmallVec::with_capacity(alloc, n)?,
+        })
     }
 
     /// Puts an operand at the end.

@@ -24,8 +24,8 @@ instrs-preserved c =
     subst (λ (size : ℕ). instr_at size c.instrs.cur.rest ≡ Ok (c.in_ok-instr.instr, c.instruction.new.cur.rest)) c.instrs.invariant.same c.in_ok-instr.ensures.read in
     record {
       read =
-        rw c.in_ok-push.ensures.ok
-        (goes_further one (instr_shrinks (end_of c.args.cur.now)) c.instrs.list c.instrs.cur.rest c.instruction.new.cur.rest c.in_ok-instr.instr (whole_of one c.args.cur.now.rest) left read c.instrs.invariant.read);
+          rw c.in_ok-push.ensures.ok
+          (goes_further one (instr_shrinks (end_of c.args.cur.now)) c.instrs.list c.instrs.cur.rest c.instruction.new.cur.rest c.in_ok-instr.instr (whole_of one c.args.cur.now.rest) left read c.instrs.invariant.read);
       same = c.in_ok-instr.ensures.end ∙ c.instrs.invariant.same;
     }
 

@@ -8,7 +8,7 @@ use Rattle.code_chunk.proofs.instructions.operands.Goals as goal
 
 pub returns-in_err-operand-clause-read : goal.returns-in_err-operand-clause-read
 returns-in_err-operand-clause-read c =
-    let p = err_from_is_err_and c.from_residual.result c.from_residual.ensures.1 in
+    let p = err_from_is_err_and c.from_residual-in_err-operand.result c.from_residual-in_err-operand.ensures.1 in
     let one = operand_in (end_of c.args.cur.now) in
     let refused : Fails NoMemory c.in_err-operand.field-0.0 (one c.loop.cur.rest) =
     subst (λ (size : ℕ). Fails NoMemory c.in_err-operand.field-0.0 (operand_in size c.loop.cur.rest)) c.loop.invariant.same c.in_err-operand.ensures.read in
@@ -24,8 +24,8 @@ loop-preserved c =
     subst (λ (size : ℕ). operand_in size c.loop.cur.rest ≡ Ok (c.in_ok-operand.operand, c.operand.new.cur.rest)) c.loop.invariant.same c.in_ok-operand.ensures.read in
     record {
       read =
-        rw c.in_ok-push.ensures.ok
-        (goes_on one c.loop.list c.args.arity c.loop.counter c.loop.cur.rest c.operand.new.cur.rest c.in_ok-operand.operand (many_at one c.args.arity c.args.cur.now.rest) c.loop-test.true read c.loop.invariant.read);
+          rw c.in_ok-push.ensures.ok
+          (goes_on one c.loop.list c.args.arity c.loop.counter c.loop.cur.rest c.operand.new.cur.rest c.in_ok-operand.operand (many_at one c.args.arity c.args.cur.now.rest) c.loop-test.true read c.loop.invariant.read);
       same = c.in_ok-operand.ensures.end ∙ c.loop.invariant.same;
     }
 

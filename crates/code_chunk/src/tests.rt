@@ -1,0 +1,108 @@
+use super::*;
+use compact_term::{Operand, OperandRefusal, Plain};
+use std::test::Fail;
+
+// The size of the sub-header, and its four words: format 0, opcode 3, one label and no function.
+const HEADER: [u8; 20] = [0, 0, 0, 16, 0, 0, 0, 0, 0, 0, 0, 3, 0, 0, 0, 1, 0, 0, 0, 0];
+
+// What follows the header, and how it is refused.
+const REFUSED: [(&[u8], CodeRefusal); 8] = [
+    (&[0xb7], CodeRefusal::Opcode { at: 20, op: 183 }),
+    (&[0x00], CodeRefusal::Opcode { at: 20, op: 0 }),
+    (
+        &[3, 0x40, 3, 0x13, 0xff],
+        CodeRefusal::Opcode { at: 24, op: 255 },
+    ),
+    // an operand's own refusal, and its offset
+    (
+        &[0x40, 0x03, 0x07],
+        CodeRefusal::Operand {
+            at: 22,
+            why: OperandRefusal::Extended { value: 0 },
+        },
+    ),
+    // the offset is that of the whole operand, and not of the member that is wrong
+    (
+        &[0xa4, 0x03, 0x17, 0x20, 0x10, 0x17, 0x00],
+        CodeRefusal::Operand {
+            at: 22,
+            why: OperandRefusal::Nested,
+        },
+    ),
+    // cut instructions
+    (
+        &[3, 0x40],
+        CodeRefusal::Operand {
+            at: 22,
+            why: OperandRefusal::Cut,
+        },
+    ),
+    (
+        &[3, 0x40, 0x03],
+        CodeRefusal::Operand {
+            at: 23,
+            why: OperandRefusal::Cut,
+        },
+    ),
+    (
+        &[0x01, 0x08],
+        CodeRefusal::Operand {
+            at: 21,
+            why: OperandRefusal::Cut,
+        },
+    ),
+];
+
+#[test]
+fn code_is_read(rt: HostRuntime) -> Result<(), Fail> {
+    let mut payload = vec![in rt.alloc(); 0, 0, 0, 18]?;
+    payload.extend_from_slice(&HEADER[4..])?;
+    payload.extend_from_slice(&[7, 8, 0x40, 0x03, 0x0b, 0x01, 0x03])?;
+    let code = read_code(rt.alloc(), payload.as_slice())?;
+    assert_eq!(rt; code.extra.as_slice(), [7, 8].as_slice());
+    assert_eq!(rt; (code.max_op, code.labels, code.functions), (3, 1, 0));
+    assert_eq!(rt; (code.instrs.len(), code.instrs.is_empty()), (2, false));
+    let first = code.instrs.get(0).ok_or("no instruction")?;
+    assert_eq!(rt; first.op(), 64);
+    assert!(rt;
+        matches!(
+            first.operands().as_slice(),
+            [Operand::One(Plain::X(0)), Operand::One(Plain::X(1))]
+        )
+    );
+    assert_eq!(rt; code.instrs.as_slice()[1].op(), 3);
+    assert!(rt; InstrList::new(rt.alloc()).is_empty());
+    one_instr_form();
+    one_code();
+    one_stop();
+    Ok(())
+}
+
+#[test]
+fn wrong_code_is_refused(rt: HostRuntime) -> Result<(), Fail> {
+    for (instrs, refusal) in REFUSED {
+        let mut payload = Vec::new(rt.alloc());
+        payload.extend_from_slice(&HEADER)?;
+        payload.extend_from_slice(instrs)?;
+        match read_code(rt.alloc(), payload.as_slice()) {
+            Ok(_) => return Err("no refusal".into()),
+            Err(found) => assert_eq!(rt; found, refusal),
+        }
+    }
+    // cut before and in the sub-header, too short, and of another format
+    let mut short = HEADER;
+    short[3] = 15;
+    let mut format = HEADER;
+    format[7] = 1;
+    for payload in [&[], &HEADER[..3], &HEADER[..19], &short, &format] {
+        let found = read_code(rt.alloc(), payload);
+        assert!(rt; matches!(found, Err(CodeRefusal::Header)));
+    }
+    let refusal = CodeRefusal::Operand {
+        at: 22,
+        why: OperandRefusal::Nested,
+    };
+    let text = format!(in rt.alloc(); "{refusal}")?;
+    assert_eq!(rt; text.as_str(), "operand at 22: a list stands in a list");
+    Ok(())
+}
