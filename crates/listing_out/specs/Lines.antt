@@ -2,7 +2,7 @@
 use Rattle.std.specs.Prelude.{ℕ, List, [], ◌∷◌, ◌++◌, Option, Some, None, length, map, codes, decimal}
 use Rattle.std.specs.List.{flat_map, range_with_len}
 use Rattle.std.specs.Fork.{slice_chunk}
-use Rattle.std.specs.Slice.Iter.{chunk_count}
+use Rattle.std.specs.Int.{div_ceil}
 use Rattle.hex.specs.Hex.{encode_lower}
 use Rattle.iff_form.specs.Text.{id_text}
 use Rattle.op_table.specs.Table.{Row, row_with}
@@ -20,7 +20,7 @@ payload_line payload k = codes "  " ++ encode_lower (slice_chunk payload 32 k)
 
 -- as many lines as the payload takes
 abbrev pub payload_lines : List ℕ → List (List ℕ)
-payload_lines payload = map (payload_line payload) (range_with_len 0 (chunk_count (length payload) 32))
+payload_lines payload = map (payload_line payload) (range_with_len 0 (div_ceil (length payload) 32))
 
 -- ---- code
 

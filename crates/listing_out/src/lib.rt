@@ -9,6 +9,5 @@ mod payload;
 
 pub use file::listing;
 
-
 #[cfg(test)]
 mod tests;
