@@ -31,7 +31,7 @@ fn put_plain(out: &mut Bytes, plain: &Plain) -> Result<(), NoMemory>
 {
     match plain {
         Plain::U(n) => put_number(out, b"u", *n),
-        Plain::I(n) => put_number(out, b"i", *n),
+        Plain::I(n) => put_number(out, b"i", n.value()),
         Plain::Wide(bytes) => {
             out.push(b'w')?;
             put_hex(out, bytes.as_slice())
