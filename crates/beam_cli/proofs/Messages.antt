@@ -3,10 +3,11 @@ use Rattle.std.proofs.Common.{◌≡◌, ℕ, List, [], ◌∷◌, Option, Some,
 use Rattle.std.specs.Prelude.{Any, IfSome}
 use Rattle.beam_cli.specs.declared.stop.Stop.{Stop}
 use Rattle.beam_cli.specs.declared.stop.Stop.TheVariants.{Grammar, ReadFault, TooLarge, NoMemory}
+use Rattle.beam_cli.specs.declared.refusal.Refusal.{Refusal}
 use Rattle.beam_cli.specs.declared.status.Status.{Status}
 use Rattle.beam_cli.specs.declared.status.Status.TheVariants as statuses
 use Rattle.beam_cli.specs.Answer.{Answer, stopped}
-use Rattle.beam_cli.specs.Message.{read_fault_line}
+use Rattle.beam_cli.specs.Message.{line_about, read_fault_line, refusal_text, too_large_line}
 use Rattle.beam_cli.specs.Outcome.{IsAnswered, IsMessage}
 use Rattle.beam_cli.specs.Stopping.{HasReason, message_of, status_of}
 
@@ -19,11 +20,22 @@ said_faulty : (Said Faulty : List ℕ → Type 0) (name : List ℕ) (names : Lis
 said_faulty Said Faulty name names some said =
     (some.0, some.1, some.2, some.3, (some.4.1, subst (λ (n : List ℕ). Said (read_fault_line n)) (sym some.4.0) said))
 
+said_about : (Said : List ℕ → Type 0) (name : List ℕ) (e : Refusal) (names : List (List ℕ)) → Any (λ n. n ≡ name) names → Said (line_about name (refusal_text e))
+    → Any (λ n. (why : Refusal) × Said (line_about n (refusal_text why))) names
+said_about Said name e names some said =
+    (some.0, some.1, some.2, some.3, (e, subst (λ (n : List ℕ). Said (line_about n (refusal_text e))) (sym some.4) said))
+
+said_large : (Said : List ℕ → Type 0) (name : List ℕ) (names : List (List ℕ)) → Any (λ n. n ≡ name) names → Said (too_large_line name) → Any (λ n. Said (too_large_line n)) names
+said_large Said name names some said =
+    (some.0, some.1, some.2, some.3, subst (λ (n : List ℕ). Said (too_large_line n)) (sym some.4) said)
+
 pub message_at : (stop : Stop) (answer : Option Answer) (Said Faulty : List ℕ → Type 0) (names : List (List ℕ)) (Nothing : Type 0) → HasReason answer Faulty names stop → Said (message_of stop)
     → IsMessage (status_of stop) answer Said Faulty names Nothing
-message_at (Grammar name e) answer Said Faulty names Nothing reason said = said_answer answer Said (message_of (Grammar name e)) statuses.Grammar reason said
+message_at (Grammar name e) answer Said Faulty names Nothing reason said =
+    (said_about Said name.now e names reason.0 said, said_answer answer Said (message_of (Grammar name e)) statuses.Grammar reason.1 said)
 message_at (ReadFault name) answer Said Faulty names Nothing reason said = said_faulty Said Faulty name.now names reason said
-message_at (TooLarge name) answer Said Faulty names Nothing reason said = said_answer answer Said (message_of (TooLarge name)) statuses.TooLarge reason said
+message_at (TooLarge name) answer Said Faulty names Nothing reason said =
+    (said_large Said name.now names reason.0 said, said_answer answer Said (message_of (TooLarge name)) statuses.TooLarge reason.1 said)
 message_at NoMemory answer Said Faulty names Nothing reason said = said
 
 -- the status is the answer's, where no named file failed
@@ -41,8 +53,8 @@ no_memory_there (Some a) Failed = λ none. inr refl
 
 pub complete_at : (stop : Stop) (answer : Option Answer) (Faulty : List ℕ → Type 0) (names : List (List ℕ)) (Other : Type 0) → HasReason answer Faulty names stop
     → IsAnswered (status_of stop) answer (Any Faulty names ⊎ Other)
-complete_at (Grammar name e) answer Faulty names Other reason = answered_as answer (message_of (Grammar name e)) statuses.Grammar (Any Faulty names ⊎ Other) reason
+complete_at (Grammar name e) answer Faulty names Other reason = answered_as answer (message_of (Grammar name e)) statuses.Grammar (Any Faulty names ⊎ Other) reason.1
 complete_at (ReadFault name) answer Faulty names Other reason =
     failed_there answer statuses.ReadFault (Any Faulty names ⊎ Other) (inl (reason.0, reason.1, reason.2, reason.3, reason.4.1))
-complete_at (TooLarge name) answer Faulty names Other reason = answered_as answer (message_of (TooLarge name)) statuses.TooLarge (Any Faulty names ⊎ Other) reason
+complete_at (TooLarge name) answer Faulty names Other reason = answered_as answer (message_of (TooLarge name)) statuses.TooLarge (Any Faulty names ⊎ Other) reason.1
 complete_at NoMemory answer Faulty names Other reason = no_memory_there answer (Any Faulty names ⊎ Other)

@@ -38,7 +38,7 @@ info_output bytes = chunks_of bytes >>= λ chunks. Ok (info_of chunks)
 
 -- the output of `disasm`
 abbrev pub disasm_output : List ℕ → Result (List ℕ) Refusal
-disasm_output bytes = value_of_file bytes >>= λ chunks. Ok (listing_of chunks)
+disasm_output bytes = value_of_file bytes >>= λ value. Ok (listing_of value)
 
 -- a command on one file, which may have at most 16,777,216 bytes
 abbrev pub of_file : (List ℕ → Result (List ℕ) Refusal) → List ℕ → List ℕ → Answer

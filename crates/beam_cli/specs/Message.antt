@@ -3,9 +3,9 @@ use Rattle.std.specs.Prelude.{ℕ, List, ◌++◌, codes, decimal}
 use Rattle.iff_form.specs.declared.refusal.FormRefusal.{FormRefusal}
 use Rattle.iff_form.specs.declared.refusal.FormRefusal.TheVariants.{Gzip, NotBeam, Size, ChunkCut, Twice, NoMemory as FormMemory}
 use Rattle.compact_term.specs.declared.refusal.OperandRefusal.{OperandRefusal}
-use Rattle.compact_term.specs.declared.refusal.OperandRefusal.TheVariants as operands
+use Rattle.compact_term.specs.declared.refusal.OperandRefusal.TheVariants as operand_refusals
 use Rattle.code_chunk.specs.declared.refusal.CodeRefusal.{CodeRefusal}
-use Rattle.code_chunk.specs.declared.refusal.CodeRefusal.TheVariants as codings
+use Rattle.code_chunk.specs.declared.refusal.CodeRefusal.TheVariants as code_refusals
 use Rattle.index_tables.specs.declared.refusal.TableRefusal.{TableRefusal}
 use Rattle.index_tables.specs.declared.refusal.TableRefusal.TheVariants.{Cut, AtomUtf8, AtomIndex, Rest, NoMemory as TableMemory}
 use Rattle.beam_cli.specs.declared.refusal.Refusal.{Refusal}
@@ -36,43 +36,43 @@ abbrev pub no_memory_line : List ℕ
 no_memory_line = line (codes "out of memory")
 
 -- why a file is no form; want of memory is no reason of that kind
-abbrev pub form_text : FormRefusal → List ℕ
-form_text Gzip = codes "gzip file"
-form_text NotBeam = codes "not a BEAM file"
-form_text (Size stated found) = codes "size " ++ (decimal stated ++ (codes ", found " ++ decimal found))
-form_text (ChunkCut at) = codes "chunk cut at " ++ decimal at
-form_text (Twice id at) = codes "chunk " ++ (id_text id ++ (codes " twice at " ++ decimal at))
-form_text FormMemory = codes "out of memory"
+abbrev pub form_refusal_text : FormRefusal → List ℕ
+form_refusal_text Gzip = codes "gzip file"
+form_refusal_text NotBeam = codes "not a BEAM file"
+form_refusal_text (Size stated found) = codes "size " ++ (decimal stated ++ (codes ", found " ++ decimal found))
+form_refusal_text (ChunkCut at) = codes "chunk cut at " ++ decimal at
+form_refusal_text (Twice id at) = codes "chunk " ++ (id_text id ++ (codes " twice at " ++ decimal at))
+form_refusal_text FormMemory = codes "out of memory"
 
 -- why a payload is no table of names
-abbrev pub table_text : TableRefusal → List ℕ
-table_text Cut = codes "cut"
-table_text Rest = codes "rest"
-table_text (AtomUtf8 n) = codes "atom " ++ (decimal n ++ codes " is not UTF-8")
-table_text (AtomIndex entry) = codes "atom number in entry " ++ decimal entry
-table_text TableMemory = codes "out of memory"
+abbrev pub table_refusal_text : TableRefusal → List ℕ
+table_refusal_text Cut = codes "cut"
+table_refusal_text Rest = codes "rest"
+table_refusal_text (AtomUtf8 n) = codes "atom " ++ (decimal n ++ codes " is not UTF-8")
+table_refusal_text (AtomIndex entry) = codes "atom number in entry " ++ decimal entry
+table_refusal_text TableMemory = codes "out of memory"
 
 -- why bytes are no operand
-abbrev pub operand_why : OperandRefusal → List ℕ
-operand_why operands.Cut = codes "cut"
-operand_why operands.Inner = codes "inner"
-operand_why (operands.Wide tag) = codes "too wide, tag " ++ decimal tag
-operand_why (operands.Negative tag) = codes "negative, tag " ++ decimal tag
-operand_why (operands.Extended value) = codes "extended " ++ decimal value
-operand_why operands.Nested = codes "nested"
-operand_why operands.NoMemory = codes "out of memory"
+abbrev pub operand_refusal_text : OperandRefusal → List ℕ
+operand_refusal_text operand_refusals.Cut = codes "cut"
+operand_refusal_text operand_refusals.Inner = codes "inner"
+operand_refusal_text (operand_refusals.Wide tag) = codes "too wide, tag " ++ decimal tag
+operand_refusal_text (operand_refusals.Negative tag) = codes "negative, tag " ++ decimal tag
+operand_refusal_text (operand_refusals.Extended value) = codes "extended " ++ decimal value
+operand_refusal_text operand_refusals.Nested = codes "nested"
+operand_refusal_text operand_refusals.NoMemory = codes "out of memory"
 
 -- why a payload is no code
-abbrev pub code_text : CodeRefusal → List ℕ
-code_text codings.Header = codes "header"
-code_text (codings.Opcode at op) = codes "opcode " ++ (decimal op ++ (codes " at " ++ decimal at))
-code_text (codings.Operand at why) = codes "operand at " ++ (decimal at ++ (codes ": " ++ operand_why why))
-code_text codings.NoMemory = codes "out of memory"
+abbrev pub code_refusal_text : CodeRefusal → List ℕ
+code_refusal_text code_refusals.Header = codes "header"
+code_refusal_text (code_refusals.Opcode at op) = codes "opcode " ++ (decimal op ++ (codes " at " ++ decimal at))
+code_refusal_text (code_refusals.Operand at why) = codes "operand at " ++ (decimal at ++ (codes ": " ++ operand_refusal_text why))
+code_refusal_text code_refusals.NoMemory = codes "out of memory"
 
 -- why a file is not what a command needs
 abbrev pub refusal_text : Refusal → List ℕ
-refusal_text (Form e) = form_text e
+refusal_text (Form e) = form_refusal_text e
 refusal_text (Missing id) = codes "no chunk " ++ id_text id
-refusal_text (Table id e) = id_text id ++ (codes ": " ++ table_text e)
-refusal_text (Code e) = codes "Code: " ++ code_text e
+refusal_text (Table id e) = id_text id ++ (codes ": " ++ table_refusal_text e)
+refusal_text (Code e) = codes "Code: " ++ code_refusal_text e
 refusal_text NoMemory = codes "out of memory"

@@ -5,12 +5,15 @@ use Rattle.bk_port.specs.Known.{after_known}
 use Rattle.bk_port.specs.Reading.{IsLeftAfter}
 use Rattle.bk_port.specs.Writing.{WritesPart}
 use Rattle.beam_cli.specs.declared.status.Status.{Status}
-use Rattle.beam_cli.specs.declared.status.Status.TheVariants.{Done, Refused, ReadFault, WriteFault, NoMemory}
+use Rattle.beam_cli.specs.declared.refusal.Refusal.{Refusal}
+use Rattle.beam_cli.specs.declared.status.Status.TheVariants.{Done, Refused, Usage, Grammar, ReadFault, WriteFault, TooLarge, NoMemory}
 use Rattle.beam_cli.specs.Answer.{Answer}
-use Rattle.beam_cli.specs.Message.{read_fault_line, write_fault_line, no_memory_line}
+use Rattle.beam_cli.specs.Message.{line_about, refusal_text, usage_line, read_fault_line, write_fault_line, too_large_line, no_memory_line}
 
--- the status is the answer's; faults and want of memory are no part of an answer
+-- the status is the answer's; no command judges yet, and faults and want of memory are no part of an
+-- answer
 abbrev pub IsStatus : Status → Option Answer → Type 0
+IsStatus Refused answer = ⊥
 IsStatus ReadFault answer = ⊤
 IsStatus WriteFault answer = ⊤
 IsStatus NoMemory answer = ⊤
@@ -47,4 +50,7 @@ IsMessage Refused answer Said Faulty names Nothing = Nothing
 IsMessage ReadFault answer Said Faulty names Nothing = Any (λ name. Faulty name × Said (read_fault_line name)) names
 IsMessage WriteFault answer Said Faulty names Nothing = Said write_fault_line
 IsMessage NoMemory answer Said Faulty names Nothing = Said no_memory_line
-IsMessage status answer Said Faulty names Nothing = IfSome answer (λ a. Said a.message)
+IsMessage TooLarge answer Said Faulty names Nothing = Any (λ name. Said (too_large_line name)) names × IfSome answer (λ a. Said a.message)
+IsMessage Grammar answer Said Faulty names Nothing =
+    Any (λ name. (e : Refusal) × Said (line_about name (refusal_text e))) names × IfSome answer (λ a. Said a.message)
+IsMessage Usage answer Said Faulty names Nothing = Said usage_line × IfSome answer (λ a. Said a.message)

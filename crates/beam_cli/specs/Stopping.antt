@@ -27,11 +27,12 @@ message_of (ReadFault name) = read_fault_line name.now
 message_of (TooLarge name) = too_large_line name.now
 message_of NoMemory = no_memory_line
 
--- the answer says so, where it is told; a read fault comes only of a named file whose faults rose
+-- a named file stopped it, and the answer says so, where it is told; a read fault comes only of a file
+-- whose faults rose
 abbrev pub HasReason : Option Answer → (List ℕ → Type 0) → List (List ℕ) → Stop → Type 0
-HasReason answer Faulty names (Grammar name e) = IfSome answer (λ a. a ≡ stopped (message_of (Grammar name e)) statuses.Grammar)
+HasReason answer Faulty names (Grammar name e) = Any (λ n. n ≡ name.now) names × IfSome answer (λ a. a ≡ stopped (message_of (Grammar name e)) statuses.Grammar)
 HasReason answer Faulty names (ReadFault name) = Any (λ n. (n ≡ name.now) × Faulty n) names
-HasReason answer Faulty names (TooLarge name) = IfSome answer (λ a. a ≡ stopped (message_of (TooLarge name)) statuses.TooLarge)
+HasReason answer Faulty names (TooLarge name) = Any (λ n. n ≡ name.now) names × IfSome answer (λ a. a ≡ stopped (message_of (TooLarge name)) statuses.TooLarge)
 HasReason answer Faulty names NoMemory = ⊤
 
 -- a file was too large

@@ -70,13 +70,10 @@ fn of_two<'a>(word: &Text, name: &'a Text) -> Option<Command<'a>>
 fn of_three<'a>(word: &Text, what: &Text, name: &'a Text) -> Option<Command<'a>>
     ensures { option_map asked result ≡ asked_by (word.now ∷ what.now ∷ name.now ∷ []) }
 {
-    if word.as_bytes() == b"show".as_slice() && names_file(name) {
-        return match shown_by(what) {
-            Some(what) => Some(Command::Show(what, name)),
-            None => None,
-        };
+    if word.as_bytes() != b"show".as_slice() || !names_file(name) {
+        return None;
     }
-    None
+    shown_by(what).map(|what| Command::Show(what, name))
 }
 
 /// The command that the words are. None exactly where they are not in the command grammar. It takes

@@ -10,7 +10,7 @@ use index_tables::TableRefusal;
 
 /// Why a file is not in the grammar that a command needs, or that memory ran out. A refusal that is
 /// carried here is never one for want of memory.
-#[derive(Clone, Copy, Debug)]
+#[derive(Clone, Copy, Debug, PartialEq, Eq)]
 pub enum Refusal {
     /// The file is no form.
     Form(FormRefusal),

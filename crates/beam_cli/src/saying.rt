@@ -1,7 +1,7 @@
 //! The messages, which take no memory.
 
 ghost use Rattle.std.specs.Prelude.{◌≡◌, ◌++◌, List, ℕ, codes, decimal};
-ghost use Rattle.beam_cli.specs.Message.{line, line_about, code_text, form_text, operand_why, refusal_text, table_text, usage_line, write_fault_line};
+ghost use Rattle.beam_cli.specs.Message.{line, line_about, code_refusal_text, form_refusal_text, operand_refusal_text, refusal_text, table_refusal_text, usage_line, write_fault_line};
 ghost use Rattle.iff_form.specs.Text.{id_text};
 ghost use Rattle.beam_cli.specs.Outcome.{IsSaid};
 ghost use Rattle.beam_cli.specs.Stopping.{message_of};
@@ -45,7 +45,7 @@ fn say_about<E: Sink>(
 // Writes why a file is no form.
 fn say_form<E: Sink>(err: &mut E, name: &Text, refusal: FormRefusal)
     ensures { IsSaid (E.written err.old) (E.written err.new) (E.faults err.old) (E.faults err.new)
-        (line_about name.now (form_text refusal)) }
+        (line_about name.now (form_refusal_text refusal)) }
 {
     let mut first = Buffer::new();
     let mut second = Buffer::new();
@@ -73,7 +73,7 @@ fn say_form<E: Sink>(err: &mut E, name: &Text, refusal: FormRefusal)
 // Writes why the payload of a chunk is not its table.
 fn say_table<E: Sink>(err: &mut E, name: &Text, id: Id, refusal: TableRefusal)
     ensures { IsSaid (E.written err.old) (E.written err.new) (E.faults err.old) (E.faults err.new)
-        (line_about name.now (id_text id ++ (codes ": " ++ table_text refusal))) }
+        (line_about name.now (id_text id ++ (codes ": " ++ table_refusal_text refusal))) }
 {
     let mut number = Buffer::new();
     let id = IdText::new(id);
@@ -96,7 +96,7 @@ fn say_table<E: Sink>(err: &mut E, name: &Text, id: Id, refusal: TableRefusal)
 // Writes why the operand at this offset of the code is none.
 fn say_operand<E: Sink>(err: &mut E, name: &Text, at: usize, why: OperandRefusal)
     ensures { IsSaid (E.written err.old) (E.written err.new) (E.faults err.old) (E.faults err.new)
-        (line_about name.now (codes "Code: operand at " ++ (decimal at ++ (codes ": " ++ operand_why why)))) }
+        (line_about name.now (codes "Code: operand at " ++ (decimal at ++ (codes ": " ++ operand_refusal_text why)))) }
 {
     let mut place = Buffer::new();
     let mut number = Buffer::new();
@@ -125,7 +125,7 @@ fn say_operand<E: Sink>(err: &mut E, name: &Text, at: usize, why: OperandRefusal
 // Writes why the payload of the chunk `Code` is no code.
 fn say_code<E: Sink>(err: &mut E, name: &Text, refusal: CodeRefusal)
     ensures { IsSaid (E.written err.old) (E.written err.new) (E.faults err.old) (E.faults err.new)
-        (line_about name.now (codes "Code: " ++ code_text refusal)) }
+        (line_about name.now (codes "Code: " ++ code_refusal_text refusal)) }
 {
     let mut first = Buffer::new();
     let mut second = Buffer::new();

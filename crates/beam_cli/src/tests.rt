@@ -42,6 +42,12 @@ fn forms_are_told_or_refused(rt: HostRuntime) -> Result<(), Fail> {
     let told = "form 60\nAtU8 6\nCode 21\nStrT 0\n";
     let twice = b"FOR1\0\0\0\x14BEAMStrT\0\0\0\0StrT\0\0\0\0";
     let odd = b"FOR1\0\0\0\x14BEAM\0a-1\0\0\0\x01*123";
+    let mut more_stated = Vec::new(rt.alloc());
+    more_stated.extend_from_slice(b"FOR1\0\0\0\x3d")?;
+    more_stated.extend_from_slice(&SAMPLE[8..])?;
+    let mut more_found = Vec::new(rt.alloc());
+    more_found.extend_from_slice(SAMPLE)?;
+    more_found.push(0)?;
     for (file, status, output, message) in [
         (SAMPLE, 0, told, ""),
         (b"FOR1\0\0\0\x04BEAM".as_slice(), 0, "form 4\n", ""),
@@ -53,10 +59,16 @@ fn forms_are_told_or_refused(rt: HostRuntime) -> Result<(), Fail> {
             "",
         ),
         (
-            b"FOR1\0\0\0\x3dBEAM".as_slice(),
+            more_stated.as_slice(),
             3,
             "",
-            "beamkit: F: size 61, found 4\n",
+            "beamkit: F: size 61, found 60\n",
+        ),
+        (
+            more_found.as_slice(),
+            3,
+            "",
+            "beamkit: F: size 60, found 61\n",
         ),
         (b"", 3, "", "beamkit: F: not a BEAM file\n"),
         (

@@ -10,7 +10,7 @@ use std::alloc::AllocFailed;
 use thiserror::Error;
 
 /// Why bytes are no file. A refusal that is carried here is never one for want of memory.
-#[derive(Debug, Drop, Error)]
+#[derive(Clone, Copy, Debug, PartialEq, Eq, Error)]
 pub enum ModuleRefusal {
     /// The bytes are no form.
     #[error("{0}")]
@@ -18,6 +18,7 @@ pub enum ModuleRefusal {
     /// The payload of the chunk `Code` is no code.
     #[error("Code: {0}")]
     Code(CodeRefusal),
+    /// Memory ran out.
     #[error("out of memory")]
     NoMemory,
 }
