@@ -33,10 +33,7 @@ pub(crate) fn put_hex(out: &mut Bytes, bytes: &[u8]) -> Result<(), NoMemory>
     ensures { OnOk result (out.new.items ≡ out.old.items ++ encode_lower bytes.now) }
 {
     for row in bytes.chunks(ROW) {
-        match put_row(out, row) {
-            Ok(()) => {}
-            Err(e) => return Err(e),
-        }
+        put_row(out, row)?;
     }
     Ok(())
 }

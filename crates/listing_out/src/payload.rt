@@ -11,10 +11,7 @@ pub(crate) fn put_payload(out: &mut Bytes, payload: &[u8]) -> Result<(), NoMemor
     ensures { OnOk result (out.new.items ≡ out.old.items ++ text_of (payload_lines payload.now)) }
 {
     for row in payload.chunks(ROW) {
-        match put_payload_line(out, row) {
-            Ok(()) => {}
-            Err(e) => return Err(e),
-        }
+        put_payload_line(out, row)?;
     }
     Ok(())
 }

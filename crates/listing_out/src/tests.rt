@@ -1,4 +1,5 @@
 use super::*;
+use crate::code::put_code;
 use crate::operand::put_operand;
 use crate::payload::put_payload;
 use beam_module::{ChunkVal, FileVal};
@@ -22,6 +23,19 @@ fn a_file_is_listed(rt: HostRuntime) -> Result<(), Fail> {
     let text = listing(alloc, &file)?;
     let lines = b"beam 1\nchunk AtU8\n  00000001016d\ncode 3 1 0 -\n  int_code_end\nchunk StrT\n";
     assert_eq!(rt; text.as_slice(), lines.as_slice());
+    Ok(())
+}
+
+#[test]
+fn code_has_a_line_for_each_instruction(rt: HostRuntime) -> Result<(), Fail> {
+    let code = [
+        0, 0, 0, 17, 0, 0, 0, 0, 0, 0, 0, 64, 0, 0, 0, 1, 0, 0, 0, 2, 0xff, 0x40, 0x03, 0x0b, 0x01,
+        0x40, 0x47, 0x70, 0x03, 3,
+    ];
+    let mut out = Bytes::new(rt.alloc());
+    put_code(&mut out, &read_code(rt.alloc(), &code)?)?;
+    let lines = b"code 64 1 2 ff\n  move x0 x1\n  move l7 x0\n  int_code_end\n";
+    assert_eq!(rt; out.as_slice(), lines.as_slice());
     Ok(())
 }
 

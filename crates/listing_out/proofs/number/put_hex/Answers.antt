@@ -12,7 +12,7 @@ loop-row-preserved c =
       tt,
       steps.0 ∙ c.loop-row.invariant.2,
       first_put c.loop-row.out.items c.put_row.new.out.items (encode_lower c.in-Some.row.now) (encode_lower (chunks_rest c.next.new.self)) (encode_lower (chunks_rest c.loop-row.row-iterator)) _
-          c.in-Ok.ensures (ap encode_lower steps.1.0 ∙ digits-append c.in-Some.row.now (chunks_rest c.next.new.self)) c.loop-row.invariant.3,
+          c.in_ok-put_row.ensures (ap encode_lower steps.1.0 ∙ digits-append c.in-Some.row.now (chunks_rest c.next.new.self)) c.loop-row.invariant.3,
     )
 
 pub returns : goal.returns

@@ -15,5 +15,5 @@ loop-row-preserved c =
       tt,
       steps.0 ∙ size,
       first_put c.loop-row.out.items c.put_payload_line.new.out.items ((codes "  " ++ encode_lower row) ++ codes "\n") (text_of (payload_lines (chunks_rest c.next.new.self))) (text_of (payload_lines (chunks_rest c.loop-row.row-iterator))) _
-          c.in-Ok.ensures (ap text_of (lines-first _ row (chunks_rest c.next.new.self) steps.1.0 (rw size at steps.1.1) steps.1.2)) c.loop-row.invariant.3,
+          c.in_ok-put_payload_line.ensures (ap text_of (lines-first _ row (chunks_rest c.next.new.self) steps.1.0 (rw size at steps.1.1) steps.1.2)) c.loop-row.invariant.3,
     )
