@@ -66,4 +66,4 @@ values_are (c ∷ chunks) vs distinct h =
     let others = values_are chunks rest.0 (IsDistinct-tail is_same_plain c chunks distinct) rest.1 in
     let apart = apart_from c first.0 chunks rest.0 is.id (IsDistinct-head is_same_plain c chunks distinct) rest.1 in
     subst AreChunks (ok_is {E = ModuleRefusal} (first.0 ∷ rest.0) vs rest.2)
-      (record { distinct = IsDistinct-cons is_same_id first.0 rest.0 apart others.distinct; kinds = (is.kind, others.kinds) })
+    (record { distinct = IsDistinct-cons is_same_id first.0 rest.0 apart others.distinct; kinds = (is.kind, others.kinds) })

@@ -39,10 +39,10 @@ many_stops {E} {A} p R agrees (suc n) bytes e fits h =
     elim (bind_err (p bytes) (λ (x : A × List ℕ). made_of (λ xs. x.0 ∷ xs) (many_at p n x.1)) e h) [
       | inl refused ↦ (stops_here p R bytes e refused, omega arith)
       | inr b ↦
-        let took = agrees.takes bytes b.0.0 b.0.1 fits b.1 in
-        let others = many_stops p R agrees n b.0.1 e took.fits (made_err (λ xs. b.0.0 ∷ xs) (many_at p n b.0.1) e b.2) in
-        let fewer = others.1 in
-        (stops_later b.0.0 bytes b.0.1 e took others.0, omega arith)
+          let took = agrees.takes bytes b.0.0 b.0.1 fits b.1 in
+          let others = many_stops p R agrees n b.0.1 e took.fits (made_err (λ xs. b.0.0 ∷ xs) (many_at p n b.0.1) e b.2) in
+          let fewer = others.1 in
+          (stops_later b.0.0 bytes b.0.1 e took others.0, omega arith)
     ]
 
 -- values up to the end of the bytes
@@ -54,13 +54,13 @@ all_stops {E} {A} p R agrees (suc n) (b ∷ bytes) e fits h =
     elim (bind_err (p (b ∷ bytes)) (λ (x : A × List ℕ). all_at p n x.1 >>= λ xs. Ok (x.0 ∷ xs)) e h) [
       | inl refused ↦ (stops_here p R (b ∷ bytes) e refused, omega arith)
       | inr first ↦
-        let took = agrees.takes (b ∷ bytes) first.0.0 first.0.1 fits first.1 in
-        elim (bind_err (all_at p n first.0.1) (λ (xs : List A). Ok (first.0.0 ∷ xs)) e first.2) [
-          | inl refused ↦
-            let others = all_stops p R agrees n first.0.1 e took.fits refused in
-            (stops_later first.0.0 (b ∷ bytes) first.0.1 e took others.0, others.1)
-          | inr none ↦ absurd (let never = none.2 in cc)
-        ]
+          let took = agrees.takes (b ∷ bytes) first.0.0 first.0.1 fits first.1 in
+          elim (bind_err (all_at p n first.0.1) (λ (xs : List A). Ok (first.0.0 ∷ xs)) e first.2) [
+            | inl refused ↦
+                let others = all_stops p R agrees n first.0.1 e took.fits refused in
+                (stops_later first.0.0 (b ∷ bytes) first.0.1 e took others.0, others.1)
+            | inr none ↦ absurd (let never = none.2 in cc)
+          ]
     ]
 
 -- no more of the bytes are values one after another
