@@ -10,3 +10,6 @@ pub use chunk_value::ChunkVal;
 pub use file_value::FileVal;
 pub use reading::read_file;
 pub use refusal::ModuleRefusal;
+
+#[cfg(test)]
+mod tests;

@@ -35,7 +35,7 @@ impl IdText {
             bytes[..4].copy_from_slice(&id.0);
             return IdText { bytes, len: 4 };
         }
-        let _ = hex::encode_to_slice(id.0, &mut bytes[1..]);
+        hex::encode_to_slice(id.0, &mut bytes[1..]).unwrap();
         IdText { bytes, len: 9 }
     }
 

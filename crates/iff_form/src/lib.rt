@@ -18,3 +18,6 @@ pub use info::info_text;
 pub use laws::{one_form, reading_is_exact};
 pub use reading::read_form;
 pub use refusal::FormRefusal;
+
+#[cfg(test)]
+mod tests;
