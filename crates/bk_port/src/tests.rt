@@ -34,6 +34,22 @@ fn memory_is_read_and_written(rt: HostRuntime) -> Result<(), Fail> {
 }
 
 #[test]
+fn sinks_follow_a_script(rt: HostRuntime) -> Result<(), Fail> {
+    for (room, piece, fail_at, outcome, written) in [
+        (6, 4, 0, Ok(()), "onetwo"),
+        (6, 4, 3, Ok(()), "onetwo"),
+        (6, 4, 2, Err(WriteFault), "onet"),
+        (6, 4, 1, Err(WriteFault), ""),
+        (5, 2, 0, Err(WriteFault), "onetw"),
+    ] {
+        let mut sink = ScriptSink::new(rt.alloc(), room, piece, fail_at)?;
+        assert_eq!(rt; emit(&mut sink, b"onetwo"), outcome, "at {room} {fail_at}");
+        assert_eq!(rt; sink.written(), written.as_bytes(), "at {room} {fail_at}");
+    }
+    Ok(())
+}
+
+#[test]
 fn files_are_read(rt: HostRuntime) -> Result<(), Fail> {
     let folder = env::temp_dir(&rt)?;
     let own = process::id(rt.process());
