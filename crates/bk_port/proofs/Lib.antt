@@ -1,3 +1,4 @@
+pub mod FrontRead
 pub mod KnownBytes
 pub mod LeftOver
 pub mod Sent

@@ -1,6 +1,7 @@
 //! Files in memory.
 
-ghost use Rattle.bk_port.specs.Listed.{bytes_held, bytes_at};
+ghost use Rattle.bk_port.specs.Listed.{bytes_held, bytes_at, is_listed};
+ghost use Rattle.std.specs.Option.{is_some};
 ghost use Rattle.std.specs.Prelude.{◌≡◌, ◌↔◌, [], ◌∷◌, ◌++◌, length, slice_get, IsTrue, OnOk, OnErr, option_copied};
 
 use bk_base::{ByteList, Bytes, NoMemory, Text};
@@ -50,7 +51,8 @@ impl FileList {
 
     // The place of the first file with this name.
     pub(crate) fn position(&self, name: &Text) -> Option<usize>
-        ensures { bytes_at self.now result ≡ bytes_held self.now name.now }
+        ensures bytes { bytes_at self.now result ≡ bytes_held self.now name.now }
+        ensures listed { is_some result ≡ is_listed self.now name.now }
     {
         for (place, (listed, _)) in self.files.iter().enumerate() {
             if listed.as_bytes() == name.as_bytes() {
@@ -58,6 +60,19 @@ impl FileList {
             }
         }
         None
+    }
+
+    // The bytes of the file at this place, if there is one.
+    pub(crate) fn bytes(&self, place: Option<usize>) -> &[u8]
+        ensures { result.now ≡ bytes_at self.now place }
+    {
+        let Some(place) = place else {
+            return &[];
+        };
+        match self.get(place) {
+            Some((_, bytes)) => bytes.as_slice(),
+            None => &[],
+        }
     }
 
     /// How many files there are.

@@ -38,13 +38,7 @@ impl MemHost {
         ensures fits { self.now.at + length result.now < 2 ^ 64 }
         ensures rest { result.now ≡ drop self.now.at (bytes_at self.now.files self.now.place) }
     {
-        let Some(place) = self.place else {
-            return &[];
-        };
-        match self.files.get(place) {
-            Some((_, bytes)) => &bytes.as_slice()[self.at..],
-            None => &[],
-        }
+        &self.files.bytes(self.place)[self.at..]
     }
 }
 

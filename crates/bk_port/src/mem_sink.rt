@@ -71,6 +71,7 @@ impl Sink for MemSink {
         ensures taken { IfOk result (λ n. n ≡ min (length buf.now) self.old.room) }
         ensures room { IfOk result (λ n. self.new.room + n ≡ self.old.room) }
         ensures err_room { OnErr result (self.new.room ≡ self.old.room) }
+        ensures counted { IfOk result (λ _. self.new.faults ≡ self.old.faults) }
     {
         if buf.is_empty() {
             return Ok(0);

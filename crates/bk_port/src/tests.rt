@@ -34,6 +34,55 @@ fn memory_is_read_and_written(rt: HostRuntime) -> Result<(), Fail> {
 }
 
 #[test]
+fn hosts_follow_a_script(rt: HostRuntime) -> Result<(), Fail> {
+    // Call 1 starts the file, 2 to 4 read two bytes each at most, and 5 reads its end.
+    for (name, fails, contents) in [
+        ("a", [0, 6], Ok("first")),
+        ("a", [6, 1], Err(LoadFault::ReadFault)),
+        ("a", [5, 6], Err(LoadFault::ReadFault)),
+        ("none", [0, 6], Err(LoadFault::ReadFault)),
+    ] {
+        let mut bytes = Bytes::new(rt.alloc());
+        bytes.extend(b"first")?;
+        let mut files = FileList::new(rt.alloc());
+        files.push(Text::from_bytes(rt.alloc(), b"a")?, bytes)?;
+        let mut numbers = NumberList::new(rt.alloc());
+        for number in fails {
+            numbers.push(number)?;
+        }
+        let mut host = ScriptHost::new(files, 2, numbers);
+        let name = Text::from_bytes(rt.alloc(), name.as_bytes())?;
+        let loaded = load(rt.alloc(), &mut host, &name);
+        let outcome = loaded
+            .as_ref()
+            .map(|bytes| bytes.as_slice())
+            .map_err(|fault| *fault);
+        assert_eq!(rt;
+            outcome,
+            contents.map(str::as_bytes),
+            "at {name:?} {fails:?}"
+        );
+    }
+    Ok(())
+}
+
+#[test]
+fn sinks_follow_a_script(rt: HostRuntime) -> Result<(), Fail> {
+    for (room, piece, fail_at, outcome, written) in [
+        (6, 4, 0, Ok(()), "onetwo"),
+        (6, 4, 3, Ok(()), "onetwo"),
+        (6, 4, 2, Err(WriteFault), "onet"),
+        (6, 4, 1, Err(WriteFault), ""),
+        (5, 2, 0, Err(WriteFault), "onetw"),
+    ] {
+        let mut sink = ScriptSink::new(rt.alloc(), room, piece, fail_at)?;
+        assert_eq!(rt; emit(&mut sink, b"onetwo"), outcome, "at {room} {fail_at}");
+        assert_eq!(rt; sink.written(), written.as_bytes(), "at {room} {fail_at}");
+    }
+    Ok(())
+}
+
+#[test]
 fn files_are_read(rt: HostRuntime) -> Result<(), Fail> {
     let folder = env::temp_dir(&rt)?;
     let own = process::id(rt.process());

@@ -14,5 +14,5 @@ found_at files file name i below is same before =
     ∙ ap (λ (f : List ℕ × List ℕ). if bytes_eq f.0 name then f.1 else bytes_held (drop (i + 1) files) name) (sym is)
     ∙ ap (λ b. if b then file.1 else bytes_held (drop (i + 1) files) name) same)
 
-pub returns-then-eq : goal.returns-then-eq
-returns-then-eq c = search (rules, found_at)
+pub returns-then-eq-clause-bytes : goal.returns-then-eq-clause-bytes
+returns-then-eq-clause-bytes c = search (rules, found_at)
