@@ -32,8 +32,8 @@ unfolding length_at
 length_never =
     never_then NoMemory (never_byte NoMemory Cut (λ h. cc)) (λ first. never_if NoMemory (eqb (first % 8) 0)
     (never_if NoMemory (ltb first 248)
-      (never_then NoMemory (short_never first) (λ z. never_step NoMemory (natural (2 ^ 64) 0 z) (natural_never (2 ^ 64) 0 z) (λ more. never_giving NoMemory (more + 9))))
-      (never_none NoMemory (Wide 0) (λ h. cc)))
+    (never_then NoMemory (short_never first) (λ z. never_step NoMemory (natural (2 ^ 64) 0 z) (natural_never (2 ^ 64) 0 z) (λ more. never_giving NoMemory (more + 9))))
+    (never_none NoMemory (Wide 0) (λ h. cc)))
     (never_none NoMemory Inner (λ h. cc)))
 
 whole_never : (first : ℕ) → Never NoMemory (whole_at first)
@@ -41,7 +41,7 @@ unfolding whole_at
 whole_never first =
     never_if NoMemory (ltb first 248) (short_never first)
     (never_then NoMemory length_never (λ n. never_if NoMemory (ltb 16 n) (never_none NoMemory (Wide (first % 8)) (λ h. cc))
-      (never_made NoMemory (twos_complement n) (never_number NoMemory Cut n (λ h. cc)))))
+    (never_made NoMemory (twos_complement n) (never_number NoMemory Cut n (λ h. cc)))))
 
 below_never : (limit first : ℕ) → Never NoMemory (below_at limit first)
 unfolding below_at
@@ -53,7 +53,7 @@ unfolding integer_at
 integer_never first =
     never_if NoMemory (ltb first 248) (never_made NoMemory plains.I (short_never first))
     (never_then NoMemory length_never (λ n. never_if NoMemory (ltb 16 n) (never_made NoMemory plains.Wide (never_bytes NoMemory Cut n (λ h. cc)))
-      (never_made NoMemory (λ x. plains.I (twos_complement n x)) (never_number NoMemory Cut n (λ h. cc)))))
+    (never_made NoMemory (λ x. plains.I (twos_complement n x)) (never_number NoMemory Cut n (λ h. cc)))))
 
 u_never : Never NoMemory u_at
 unfolding u_at
