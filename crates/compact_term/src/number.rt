@@ -91,12 +91,26 @@ pub(crate) fn whole(cur: &mut Cursor<'_>, first: u8) -> Result<i128, OperandRefu
     long(cur, n)
 }
 
-// The number, where it is not negative and at most `max`.
+// The number behind its first byte, where it is not negative and at most `max`.
 #[tactic(auto, unfolding(crate::specs::Reading::below_at))]
-pub(crate) fn at_most(cur: &mut Cursor<'_>, max: u64, first: u8) -> Result<u64, OperandRefusal>
+fn bounded(cur: &mut Cursor<'_>, max: u64, first: u8) -> Result<u64, OperandRefusal>
     ensures value { Gives OperandRefusal.NoMemory (λ n. n) cur.new.rest result (below_at (max + 1) first cur.old.rest) }
     ensures within { IfOk result (λ n. n ≤ max) }
 {
     let z = whole(cur, first)?;
     natural_of(max, first % 8, z)
+}
+
+// The same. Most numbers stand in the first byte itself.
+#[inline]
+#[tactic(auto, unfolding(crate::specs::Reading::below_at, crate::specs::Reading::whole_at, crate::specs::Reading::short_at))]
+pub(crate) fn at_most(cur: &mut Cursor<'_>, max: u64, first: u8) -> Result<u64, OperandRefusal>
+    requires { 15 ≤ max }
+    ensures value { Gives OperandRefusal.NoMemory (λ n. n) cur.new.rest result (below_at (max + 1) first cur.old.rest) }
+    ensures within { IfOk result (λ n. n ≤ max) }
+{
+    if first / 8 % 2 == 0 {
+        return Ok(u64::from(first / 16));
+    }
+    bounded(cur, max, first)
 }

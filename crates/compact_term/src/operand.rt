@@ -46,17 +46,6 @@ pub enum Operand {
     Alloc(PairList),
 }
 
-impl Default for Plain {
-    ghost use Rattle.std.specs.Prelude.{◌≡◌};
-    ghost use Rattle.compact_term.specs.declared.operand.Plain.TheVariants.{U};
-
-    ghost is_default = { λ p. p ≡ U 0 };
-
-    fn default() -> Plain {
-        Plain::U(0)
-    }
-}
-
 impl Default for Operand {
     ghost use Rattle.std.specs.Prelude.{◌≡◌};
     ghost use Rattle.compact_term.specs.declared.operand.Plain.TheVariants.{U};
@@ -65,6 +54,6 @@ impl Default for Operand {
     ghost is_default = { λ o. o ≡ One (U 0) };
 
     fn default() -> Operand {
-        Operand::One(Plain::default())
+        Operand::One(Plain::U(0))
     }
 }

@@ -1,5 +1,5 @@
 use super::*;
-use bk_base::{Cursor, NoMemory};
+use bk_base::{ByteList, Cursor, NoMemory};
 use std::test::Fail;
 
 // Each spelling with what it reads as, which takes all of its bytes, or its refusal, which moves nothing.
@@ -83,9 +83,20 @@ fn operands_with_parts_are_read(rt: HostRuntime) -> Result<(), Fail> {
 }
 
 #[test]
+fn integers_hold_their_values(rt: HostRuntime) -> Result<(), Fail> {
+    for z in [0, -1, i128::MAX, i128::MIN, 1 << 64, -(1 << 64) - 1] {
+        assert_eq!(rt; Integer::from(z).value(), z);
+    }
+    let bytes = ByteList::from_slice(rt.alloc(), &[7; 17])?;
+    let wide = WideInteger::new(rt.alloc(), bytes)?;
+    assert_eq!(rt; (wide.len(), wide.as_slice()), (17, [7; 17].as_slice()));
+    Ok(())
+}
+
+#[test]
 fn lists_hold_what_was_pushed(rt: HostRuntime) -> Result<(), Fail> {
     let mut members = PlainList::new(rt.alloc());
-    members.push(Plain::default())?;
+    members.push(Plain::U(0))?;
     assert!(rt; matches!(members.get(0), Some(Plain::U(0))) && members.get(1).is_none());
     let mut pairs = PairList::new(rt.alloc());
     pairs.push((1, 2))?;

@@ -2,12 +2,12 @@
 use Rattle.std.proofs.Common.{◌≡◌, ℕ, zero, suc, ◌+◌, ◌-◌, ◌<◌, ◌≤◌, Bool, true, eqb, ◌&&◌, List, [], ◌∷◌, map, length, Option, Some, None, refl, sym, ap, ◌∙◌, arith}
 use Rattle.std.specs.List.{find, slice_get}
 use Rattle.std.specs.Borrow.{Bor}
-use Rattle.std.specs.Option.{option_map, option_copied}
+use Rattle.std.specs.Option.{option_map, option_copied, IfSome}
 use Rattle.std.specs.Slice.{IsItemAt}
 use Rattle.std.proofs.lemmas.Option.{slice_get-map, slice_get_past, slice_get_read}
 use Rattle.std.proofs.lemmas.Bool.{and_parts, ltb-true, eqb-true, eq-eqb, ne_eqb}
 use Rattle.op_table.specs.declared.row.OpRow.{OpRow}
-use Rattle.op_table.specs.Table.{Row, table, row_with, row_of}
+use Rattle.op_table.specs.Table.{Row, table, row_with, row_of, arity_of}
 
 -- the numbers count up from k
 numbered : ℕ → List Row → Bool
@@ -48,3 +48,7 @@ row_with-none op none = let zero_is : op ≡ 0 = omega arith in sym (ap row_with
 pub copied_at : (rows : List OpRow) (i : ℕ) (r : Option (Bor OpRow)) → IsItemAt rows i r → option_copied r ≡ slice_get rows i
 copied_at rows i None item = sym (slice_get_past rows i item.3)
 copied_at rows i (Some x) item = sym (slice_get_read rows (length rows) i x.now refl (ltb-true i (length rows) (sym item.0)) item.1)
+
+pub arity_in : (op : ℕ) (r : Option (Bor OpRow)) → option_map row_of (option_copied r) ≡ row_with op → IfSome r (λ x. arity_of op ≡ Some x.now.arity)
+arity_in op None row = tt
+arity_in op (Some x) row = ap (option_map (λ (q : Row). q.arity)) (sym row)

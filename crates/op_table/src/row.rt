@@ -1,7 +1,7 @@
 //! The table of opcodes.
 
-ghost use Rattle.std.specs.Prelude.{◌≡◌, ◌⊎◌, ◌<◌, ◌↔◌, IsNone, option_copied, option_map, map, length};
-ghost use Rattle.op_table.specs.Table.{table, row_with, row_of};
+ghost use Rattle.std.specs.Prelude.{◌≡◌, ◌⊎◌, ◌<◌, ◌↔◌, IsNone, Some, IfSome, option_copied, option_map, map, length};
+ghost use Rattle.op_table.specs.Table.{table, row_with, row_of, arity_of};
 
 use crate::rows::ROWS;
 
@@ -37,6 +37,7 @@ fn rows() -> &'static [OpRow]
 /// The row of an opcode, which there is for 1 to 182.
 pub fn op_row(op: u8) -> Option<&'static OpRow>
     ensures row { option_map row_of (option_copied result) ≡ row_with op }
+    ensures arity { IfSome result (λ r. arity_of op ≡ Some r.now.arity) }
     ensures none { IsNone result ↔ ((op < 1) ⊎ (182 < op)) }
 {
     let index = usize::from(op).checked_sub(1)?;

@@ -28,6 +28,7 @@ fn opcodes_have_rows(rt: HostRuntime) -> Result<(), Fail> {
 }
 
 #[test]
+#[tactic(auto, unfolding(crate::specs::Table::table))]
 fn instructions_hold_their_operands(rt: HostRuntime) -> Result<(), Fail> {
     let mut operands = OperandList::new(rt.alloc());
     assert!(rt; operands.is_empty());
