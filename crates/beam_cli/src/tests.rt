@@ -1,6 +1,6 @@
 use super::*;
 use bk_base::Bytes;
-use bk_port::{FileList, MemHost, MemSink};
+use bk_port::{FileList, MemHost, MemSink, NumberList, ScriptHost, ScriptSink};
 use std::process::Abort;
 use std::test::Fail;
 
@@ -20,20 +20,31 @@ struct Outcome {
     err: MemSink,
 }
 
-// Calls the program with these words and the file `F`, with room for so many bytes of output.
-fn call(alloc: Global, words: &[&str], file: &[u8], room: usize) -> Result<Outcome, Fail> {
+// A list of these words.
+fn words_of(alloc: Global, words: &[&str]) -> Result<WordList, Fail> {
     let mut list = WordList::new(alloc);
     for word in words {
         list.push(Text::from_bytes(alloc, word.as_bytes())?)?;
     }
+    Ok(list)
+}
+
+// The one file `F` of these bytes.
+fn files_of(alloc: Global, file: &[u8]) -> Result<FileList, Fail> {
     let mut bytes = Bytes::new(alloc);
     bytes.extend(file)?;
     let mut files = FileList::new(alloc);
     files.push(Text::from_bytes(alloc, b"F")?, bytes)?;
-    let mut host = MemHost::new(files);
+    Ok(files)
+}
+
+// Calls the program with these words and the file `F`, with room for so many bytes of output.
+fn call(alloc: Global, words: &[&str], file: &[u8], room: usize) -> Result<Outcome, Fail> {
+    let words = words_of(alloc, words)?;
+    let mut host = MemHost::new(files_of(alloc, file)?);
     let mut out = MemSink::new(alloc, room)?;
     let mut err = MemSink::new(alloc, 1000)?;
-    let status = run(alloc, &list, &mut host, &mut out, &mut err);
+    let status = run(alloc, &words, &mut host, &mut out, &mut err);
     Ok(Outcome { status, out, err })
 }
 
@@ -323,10 +334,7 @@ fn faults_and_limits_have_their_status(rt: HostRuntime) -> Result<(), Fail> {
         refused.err.written(),
         b"beamkit: F: more than 16777216 bytes\n".as_slice()
     );
-    let mut words = WordList::new(alloc);
-    for word in ["info", "no such file"] {
-        words.push(Text::from_bytes(alloc, word.as_bytes())?)?;
-    }
+    let words = words_of(alloc, &["info", "no such file"])?;
     let mut out = MemSink::new(alloc, 100)?;
     let mut err = MemSink::new(alloc, 100)?;
     let mut host = FileHost::new(rt);
@@ -336,5 +344,28 @@ fn faults_and_limits_have_their_status(rt: HostRuntime) -> Result<(), Fail> {
         err.written(),
         b"beamkit: no such file: read fault\n".as_slice()
     );
+    Ok(())
+}
+
+#[test]
+fn calls_that_fail_have_their_status(rt: HostRuntime) -> Result<(), Fail> {
+    let alloc = rt.alloc();
+    let words = words_of(alloc, &["info", "F"])?;
+    let mut err = MemSink::new(alloc, 100)?;
+    let mut fails = NumberList::new(alloc);
+    fails.push(3)?;
+    let mut host = ScriptHost::new(files_of(alloc, SAMPLE)?, 20, fails);
+    let mut out = MemSink::new(alloc, 100)?;
+    let status = run(alloc, &words, &mut host, &mut out, &mut err);
+    assert_eq!(rt; status, Status::ReadFault);
+    assert_eq!(rt; out.written(), b"".as_slice());
+    assert_eq!(rt; err.written(), b"beamkit: F: read fault\n".as_slice());
+    let mut host = MemHost::new(files_of(alloc, SAMPLE)?);
+    let mut out = ScriptSink::new(alloc, 100, 5, 2)?;
+    let mut err = MemSink::new(alloc, 100)?;
+    let status = run(alloc, &words, &mut host, &mut out, &mut err);
+    assert_eq!(rt; status, Status::WriteFault);
+    assert_eq!(rt; out.written(), b"form ".as_slice());
+    assert_eq!(rt; err.written(), b"beamkit: write fault\n".as_slice());
     Ok(())
 }
