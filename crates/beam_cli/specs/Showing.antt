@@ -1,5 +1,5 @@
 -- The output of `show`: one table of the file, with the atoms that its entries name.
-use Rattle.std.specs.Prelude.{ℕ, List, [], ◌∷◌, codes, Result, Ok, Err}
+use Rattle.std.specs.Prelude.{ℕ, List, codes, Result, Ok}
 use Rattle.bk_codec.specs.Reading.{◌>>=◌}
 use Rattle.iff_form.specs.declared.id.Id.{Id}
 use Rattle.iff_form.specs.Chunk.{PlainChunk}

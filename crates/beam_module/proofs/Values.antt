@@ -1,8 +1,7 @@
 -- The values of a form's chunks are the chunks of a file.
-use Rattle.std.proofs.Common.{◌≡◌, ℕ, Bool, true, false, cond, List, [], ◌∷◌, Result, Ok, Err, refl, sym, ap, subst, ◌∙◌, inl, inr}
+use Rattle.std.proofs.Common.{◌≡◌, ℕ, false, List, [], ◌∷◌, Ok, refl, ap, subst, inl, inr}
 use Rattle.std.specs.Prelude.{bytes_eq, codes}
-use Rattle.std.specs.List.{IsDistinct, AllByRecursion}
-use Rattle.std.proofs.lemmas.Bool.{false≢true}
+use Rattle.std.specs.List.{AllByRecursion}
 use Rattle.std.proofs.lemmas.Bool.Decides.{not_from_Decides}
 use Rattle.std.proofs.lemmas.Map.Keys.{IsDistinct-cons, IsDistinct-head, IsDistinct-tail}
 use Rattle.std.proofs.lemmas.Slice.Eq.{bytes_eq-Decides}
@@ -15,7 +14,7 @@ use Rattle.code_chunk.specs.Reading.{code_at}
 use Rattle.beam_module.specs.declared.chunk_value.ChunkVal.TheVariants as values
 use Rattle.beam_module.specs.declared.refusal.ModuleRefusal.{ModuleRefusal}
 use Rattle.beam_module.specs.declared.refusal.ModuleRefusal.TheVariants as refusals
-use Rattle.beam_module.specs.File.{AreChunks, FileChunk, HoldsItsKind, code_id, is_same_id}
+use Rattle.beam_module.specs.File.{AreChunks, FileChunk, HoldsItsKind, is_same_id}
 use Rattle.beam_module.specs.Reading.{refused_as, value_of, values_of}
 use Rattle.beam_module.proofs.ChunkLemmas.{chunks_none}
 

@@ -1,5 +1,5 @@
 -- The value of a file: its chunks in the order of the form, where the chunk `Code` is code and every other one is its payload.
-use Rattle.std.specs.Prelude.{◌≡◌, ℕ, Bool, false, List, [], ◌∷◌, codes}
+use Rattle.std.specs.Prelude.{◌≡◌, Bool, false, List, codes}
 use Rattle.std.specs.List.{IsDistinct, AllByRecursion, list_any}
 use Rattle.std.specs.Str.{bytes_eq}
 use Rattle.iff_form.specs.declared.id.Id.{Id}

@@ -4,8 +4,8 @@ use Rattle.std.specs.Prelude.{IfErr}
 use Rattle.std.proofs.lemmas.Bool.{cases_lt, ltb-true, ltb-false, lt-ltb, le-ltb}
 use Rattle.byteorder.specs.Endian.{big_number}
 use Rattle.bk_codec.specs.Reading.{◌>>=◌, giving, made_of, number_at, many_at, numbered_at, counted_at, alone, ended, GivesAll}
-use Rattle.bk_codec.specs.Spelling.{IsBytes, SpellsMany, SpellsWord, SpellsCounted}
-use Rattle.bk_codec.specs.Refusal.{StopsAt, GoesOn, RefusesCounted, IsDecided}
+use Rattle.bk_codec.specs.Spelling.{IsBytes, SpellsMany, SpellsCounted}
+use Rattle.bk_codec.specs.Refusal.{StopsAt, RefusesCounted, IsDecided}
 use Rattle.bk_codec.proofs.Steps.{bind_err, made_err, guard_ok, guard_err, err_is, ok_is}
 use Rattle.bk_codec.proofs.Agreement.{number_agrees}
 use Rattle.bk_codec.proofs.Counted.{AgreesByNumber, counted_agrees}

@@ -1,5 +1,5 @@
 -- What a reading that succeeded says of its steps.
-use Rattle.std.proofs.Common.{◌≡◌, ◌⊎◌, ℕ, Bool, true, false, cond, List, Result, Ok, Err, refl, ap, sym, inl, inr}
+use Rattle.std.proofs.Common.{◌≡◌, ◌⊎◌, ℕ, Bool, true, false, cond, List, Result, Ok, Err, refl, ap, inl, inr}
 use Rattle.bk_codec.specs.Reading.{◌>>=◌, made_of}
 
 -- an answer, with its type

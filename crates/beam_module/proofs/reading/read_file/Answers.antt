@@ -1,6 +1,4 @@
-use Rattle.std.proofs.Common.{subst}
 use Rattle.iff_form.specs.Chunk.{plains}
-use Rattle.iff_form.specs.Form.{AreDistinct}
 use Rattle.beam_module.proofs.Values.{values_are}
 use Rattle.beam_module.proofs.reading.read_file.Goals as goal
 

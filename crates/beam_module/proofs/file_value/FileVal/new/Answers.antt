@@ -1,4 +1,3 @@
-use Rattle.beam_module.specs.File.{AreChunks}
 use Rattle.beam_module.proofs.ChunkLemmas.{chunks_none}
 use Rattle.beam_module.proofs.file_value.FileVal.new.Goals as goal
 
