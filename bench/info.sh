@@ -1,0 +1,43 @@
+#!/bin/sh
+# Makes a form of 16 MiB and prints the time of `beamkit info` on it divided by that of `sha256sum`,
+# and the most memory that it took divided by the file's size. Aim: below 1 and below 3.
+set -eu
+top=$(CDPATH= cd -- "$(dirname -- "$0")/.." && pwd)
+folder=$(mktemp -d)
+trap 'rm -rf "$folder"' EXIT
+"$top/beamkit" info "$top/crates/beam_cli/data/sample.beam" >/dev/null
+python3 - "$top/crates/beam_cli/out/beam_cli" "$folder/large.beam" <<'PYTHON'
+import os, resource, struct, subprocess, sys, time
+
+program, path = sys.argv[1:]
+size, body, count = 16 * 1024 * 1024, b"", 0
+while True:
+    chunk = b"C%03d" % count + struct.pack(">I", 65_528) + bytes(65_528)
+    if 12 + len(body) + len(chunk) > size:
+        break
+    body += chunk
+    count += 1
+rest = size - 12 - len(body) - 8
+body += b"Last" + struct.pack(">I", rest) + bytes(rest)
+with open(path, "wb") as file:
+    file.write(b"FOR1" + struct.pack(">I", 4 + len(body)) + b"BEAM" + body)
+size = os.path.getsize(path)
+
+
+def seconds(words):
+    best = None
+    for _ in range(9):
+        begin = time.perf_counter()
+        subprocess.run(words, stdout=subprocess.DEVNULL, check=True)
+        took = time.perf_counter() - begin
+        best = took if best is None else min(best, took)
+    return best
+
+
+own = seconds([program, "info", path])
+peak = resource.getrusage(resource.RUSAGE_CHILDREN).ru_maxrss * 1024
+other = seconds(["sha256sum", path])
+print(f"file {size} bytes, {count + 1} chunks")
+print(f"time {own:.4f} s, sha256sum {other:.4f} s, ratio {own / other:.2f}")
+print(f"memory {peak} bytes, ratio {peak / size:.2f}")
+PYTHON
