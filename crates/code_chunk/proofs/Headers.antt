@@ -1,11 +1,9 @@
 -- The sub-header is read where it is spelled, and nowhere else.
-use Rattle.std.proofs.Common.{◌≡◌, ◌⊎◌, ℕ, ◌+◌, ◌-◌, ◌^◌, ◌<◌, ◌≤◌, false, true, ltb, eqb, cond, List, [], ◌∷◌, ◌++◌, length, take, drop, Result, Ok, Err, refl, sym, ap, subst, ◌∙◌, append_assoc, arith, length-append, inl, inr}
-use Rattle.std.proofs.lemmas.Bool.{cases_lt, cases_eq, lt-ltb, le-ltb, ltb-false, eq-eqb, ne_eqb}
-use Rattle.std.proofs.lemmas.List.{take_at, drop_at, drop-drop, take-append-drop, length-drop}
-use Rattle.byteorder.specs.Endian.{big_number, big_bytes}
-use Rattle.byteorder.specs.Numbers.{big_number-reads_back, length-bytes_high_first}
-use Rattle.bk_codec.specs.Reading.{◌>>=◌, giving, bytes_at, number_at}
-use Rattle.bk_codec.specs.Spelling.{IsBytes, Then, SpellsNumber, SpellsWord}
+use Rattle.std.proofs.Common.{◌≡◌, ℕ, ◌≤◌, ltb, List, ◌++◌, length, Ok, refl, sym, ap, subst, ◌∙◌, append_assoc, arith, inl, inr}
+use Rattle.std.proofs.lemmas.Bool.{cases_eq, le-ltb, ltb-false, eq-eqb, ne_eqb}
+use Rattle.byteorder.specs.Endian.{big_number}
+use Rattle.bk_codec.specs.Reading.{◌>>=◌, bytes_at, number_at}
+use Rattle.bk_codec.specs.Spelling.{IsBytes, Then, SpellsWord}
 use Rattle.bk_codec.proofs.Steps.{bind_ok, ok_is, guard_ok}
 use Rattle.bk_codec.proofs.Agreement.{Takes, Takes-then, Takes-weaker, bytes_agree, number_agrees}
 use Rattle.code_chunk.specs.declared.refusal.CodeRefusal.{CodeRefusal}

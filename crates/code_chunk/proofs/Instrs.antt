@@ -1,12 +1,10 @@
 -- Instructions are read where they are spelled, and nowhere else.
-use Rattle.std.proofs.Common.{◌≡◌, ℕ, suc, ◌+◌, ◌-◌, ◌<◌, ◌≤◌, Option, Some, None, List, [], ◌∷◌, ◌++◌, length, Result, Ok, Err, refl, sym, ap, subst, ◌∙◌, append_assoc, arith, length-append, All}
-use Rattle.std.proofs.lemmas.List.Elements.{All-nil, All-cons}
-use Rattle.bk_codec.specs.Reading.{◌>>=◌, made_of, many_at, whole_of}
-use Rattle.bk_codec.specs.Spelling.{IsBytes, Then, SpellsMany}
+use Rattle.std.proofs.Common.{◌≡◌, ℕ, ◌-◌, ◌<◌, Option, Some, None, List, [], ◌∷◌, ◌++◌, length, Ok, refl, sym, ap, subst, ◌∙◌, arith, All}
+use Rattle.bk_codec.specs.Reading.{many_at}
+use Rattle.bk_codec.specs.Spelling.{IsBytes, SpellsMany}
 use Rattle.bk_codec.proofs.Steps.{made_ok}
-use Rattle.bk_codec.proofs.Agreement.{Agrees, Takes, Takes-weaker, many_agree, IsBytes-front, IsBytes-back, IsBytes-tail}
+use Rattle.bk_codec.proofs.Agreement.{Agrees, Takes, many_agree, IsBytes-back, IsBytes-tail}
 use Rattle.bk_codec.proofs.ToTheEnd.{AgreesOnAll, all_agree}
-use Rattle.compact_term.specs.declared.operand.Operand.{Operand}
 use Rattle.compact_term.specs.Spelling.{Spells}
 use Rattle.compact_term.specs.Operand.{IsOperand}
 use Rattle.compact_term.specs.Reading.{operand_at}
@@ -14,7 +12,6 @@ use Rattle.compact_term.proofs.Operands.{operand_agrees}
 use Rattle.compact_term.proofs.Proper.{operand_proper, many_proper}
 use Rattle.op_table.specs.Table.{arity_of}
 use Rattle.op_table.specs.Instruction.{Instruction}
-use Rattle.code_chunk.specs.declared.refusal.CodeRefusal.{CodeRefusal}
 use Rattle.code_chunk.specs.Spelling.{SpellsInstr}
 use Rattle.code_chunk.specs.Code.{IsInstr}
 use Rattle.code_chunk.specs.Reading.{located, operand_in, instr_with, instr_at}

@@ -1,5 +1,5 @@
 -- Each spelling has one value, and what an answer says of a payload.
-use Rattle.std.proofs.Common.{◌≡◌, ◌⊎◌, ℕ, ◌≤◌, List, ◌++◌, Result, Ok, Err, IfOk, IfErr, refl, sym, ap, subst, ◌∙◌, arith, inl, inr}
+use Rattle.std.proofs.Common.{◌≡◌, ◌⊎◌, ℕ, ◌≤◌, List, ◌++◌, Result, Ok, Err, IfOk, IfErr, sym, ap, subst, ◌∙◌, arith, inl, inr}
 use Rattle.std.proofs.lemmas.List.{append_cancel_right}
 use Rattle.bk_codec.specs.Reading.{Fails, GivesAll}
 use Rattle.bk_codec.specs.Spelling.{IsBytes}

@@ -1,15 +1,12 @@
 -- An instruction that is read takes at least a byte.
-use Rattle.std.proofs.Common.{◌≡◌, ℕ, suc, ◌-◌, ◌<◌, ◌≤◌, Option, Some, None, List, [], ◌∷◌, length, Bool, true, false, IsTrue, refl, Result, Ok, Err, ap, arith}
-use Rattle.bk_codec.specs.Reading.{◌>>=◌, made_of, many_at}
+use Rattle.std.proofs.Common.{◌≡◌, ℕ, ◌-◌, ◌<◌, ◌≤◌, Option, Some, None, List, [], ◌∷◌, length, Bool, false, IsTrue, refl, Result, Ok, Err, ap, arith}
 use Rattle.bk_codec.proofs.Steps.{ok_is}
 use Rattle.bk_codec.proofs.Keeps.{Keeps, keeps_made, keeps_many}
 use Rattle.bk_codec.proofs.ToTheEnd.{Shrinks}
-use Rattle.compact_term.specs.declared.operand.Operand.{Operand}
 use Rattle.compact_term.specs.declared.refusal.OperandRefusal.{OperandRefusal}
 use Rattle.compact_term.specs.Reading.{operand_at}
 use Rattle.compact_term.proofs.Keeping.{operand_keeps}
 use Rattle.op_table.specs.Table.{arity_of}
-use Rattle.op_table.specs.Instruction.{Instruction}
 use Rattle.code_chunk.specs.declared.refusal.CodeRefusal.{CodeRefusal}
 use Rattle.code_chunk.specs.Reading.{located, operand_in, instr_with, instr_at}
 

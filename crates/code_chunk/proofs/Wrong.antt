@@ -1,17 +1,16 @@
 -- What a refusal says of a payload.
-use Rattle.std.proofs.Common.{◌≡◌, ◌⊎◌, ◌≢◌, ℕ, suc, ◌+◌, ◌-◌, ◌<◌, ◌≤◌, Bool, false, true, ltb, eqb, cond, Option, Some, None, List, [], ◌∷◌, ◌++◌, length, take, drop, Result, Ok, Err, refl, sym, ap, subst, ◌∙◌, arith, inl, inr, length-append}
+use Rattle.std.proofs.Common.{◌≡◌, ℕ, suc, ◌+◌, ◌-◌, ◌<◌, ◌≤◌, Bool, false, true, ltb, cond, Option, Some, None, List, [], ◌∷◌, length, take, drop, Result, Ok, Err, refl, sym, ap, subst, ◌∙◌, arith, inl, inr, length-append}
 use Rattle.std.proofs.lemmas.Bool.{cases_lt, cases_eq, lt-ltb, le-ltb, ltb-false, eq-eqb, ne_eqb}
-use Rattle.std.proofs.lemmas.List.{take_at, drop_at, drop-drop, take-append-drop, length-drop, length-take, append-nil}
+use Rattle.std.proofs.lemmas.List.{take_at, drop_at, drop-drop, take-append-drop, length-drop, length-take}
 use Rattle.byteorder.specs.Endian.{big_number}
 use Rattle.byteorder.specs.Numbers.{big_from-take}
-use Rattle.bk_codec.specs.Reading.{◌>>=◌, giving, made_of, bytes_at, number_at, many_at, whole_of}
+use Rattle.bk_codec.specs.Reading.{◌>>=◌, giving, bytes_at, number_at, many_at, whole_of}
 use Rattle.bk_codec.specs.Spelling.{IsBytes, SpellsMany}
 use Rattle.bk_codec.proofs.Steps.{bind_ok, bind_err, err_is, ok_is, guard_ok}
 use Rattle.bk_codec.proofs.Agreement.{IsBytes-drop, IsBytes-back, IsBytes-tail}
 use Rattle.bk_codec.proofs.Stops.{StopsAt, many_stops, all_stops, longest, made_err}
 use Rattle.compact_term.specs.declared.operand.Operand.{Operand}
 use Rattle.compact_term.specs.declared.refusal.OperandRefusal.{OperandRefusal}
-use Rattle.compact_term.specs.declared.refusal.OperandRefusal.TheVariants as operand_refusals
 use Rattle.compact_term.specs.Spelling.{Spells}
 use Rattle.compact_term.specs.Reading.{operand_at}
 use Rattle.compact_term.proofs.Memory.{operand_never}
@@ -22,7 +21,7 @@ use Rattle.code_chunk.specs.declared.refusal.CodeRefusal.{CodeRefusal}
 use Rattle.code_chunk.specs.declared.refusal.CodeRefusal.TheVariants as refusals
 use Rattle.code_chunk.specs.Spelling.{SpellsInstr}
 use Rattle.code_chunk.specs.Reading.{located, operand_in, instr_with, instr_at, sized_at, of_format, header_at, code_of, code_at}
-use Rattle.code_chunk.specs.Stop.{AreInstrs, IsStop, HasHeader, instrs_from, IsNoOpcode, IsNoOperand, IsWrong}
+use Rattle.code_chunk.specs.Stop.{IsStop, HasHeader, instrs_from, IsWrong}
 use Rattle.code_chunk.proofs.Headers.{of_format_ok}
 use Rattle.code_chunk.proofs.Instrs.{operand_in_agrees, instr_agrees}
 

@@ -1,5 +1,5 @@
 -- Proper code: numbers in the range of their types, and a sub-header whose size a word holds.
-use Rattle.std.specs.Prelude.{ℕ, ◌+◌, ◌^◌, ◌<◌, length, All}
+use Rattle.std.specs.Prelude.{◌+◌, ◌^◌, ◌<◌, length, All}
 use Rattle.bk_codec.specs.Spelling.{IsBytes}
 use Rattle.compact_term.specs.Operand.{IsOperand}
 use Rattle.op_table.specs.Instruction.{Instruction, IsInstruction}

@@ -28,6 +28,7 @@ pub struct CodeVal {
     pub labels: u32,
     /// How many functions there are said to be.
     pub functions: u32,
+    /// The instructions, in order.
     pub instrs: InstrList,
 }
 

@@ -20,6 +20,7 @@ pub enum CodeRefusal {
     /// No operand stands at `at`, where an instruction wants one.
     #[error("operand at {at}: {why}")]
     Operand { at: usize, why: OperandRefusal },
+    /// Memory ran out.
     #[error("out of memory")]
     NoMemory,
 }

@@ -1,10 +1,9 @@
 -- What was read from the front of bytes.
-use Rattle.std.proofs.Common.{◌≡◌, ◌⊎◌, ℕ, ◌-◌, ◌≤◌, List, ◌++◌, length, drop, Result, Ok, Err, refl, sym, ap, subst, ◌∙◌, arith, length-append, ◌+◌, inl, inr}
+use Rattle.std.proofs.Common.{◌≡◌, ℕ, ◌-◌, ◌≤◌, List, ◌++◌, length, drop, Ok, sym, ap, subst, ◌∙◌, arith, length-append, ◌+◌, inl, inr}
 use Rattle.std.proofs.lemmas.List.{append_cancel_right, drop_at}
-use Rattle.bk_base.specs.Place.{Place}
 use Rattle.bk_codec.specs.Reading.{Fails}
 use Rattle.bk_codec.specs.Spelling.{IsBytes}
-use Rattle.bk_codec.proofs.Agreement.{Takes, IsBytes-front, one_form}
+use Rattle.bk_codec.proofs.Agreement.{IsBytes-front, one_form}
 use Rattle.compact_term.specs.declared.refusal.OperandRefusal.{OperandRefusal}
 use Rattle.compact_term.specs.declared.refusal.OperandRefusal.TheVariants.{NoMemory}
 use Rattle.compact_term.specs.declared.operand.Operand.{Operand}

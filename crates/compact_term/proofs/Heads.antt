@@ -1,13 +1,13 @@
 -- What begins an operand is read where it is spelled, and nowhere else.
-use Rattle.std.proofs.Common.{◌≡◌, ◌⊎◌, ℕ, ◌+◌, ◌%◌, ◌^◌, ◌<◌, true, false, eqb, cond, pos, List, [], ◌∷◌, ◌++◌, Result, Ok, Err, refl, sym, ap, subst, ◌∙◌, append_assoc, arith, inl, inr}
+use Rattle.std.proofs.Common.{◌≡◌, ℕ, ◌%◌, ◌^◌, ◌<◌, pos, List, [], ◌∷◌, ◌++◌, Ok, refl, sym, ap, subst, ◌∙◌, append_assoc, arith, inl, inr}
 use Rattle.std.proofs.lemmas.Bool.{cases_eq, eq-eqb, ne_eqb}
 use Rattle.std.proofs.lemmas.List.{append-nil}
-use Rattle.bk_codec.specs.Reading.{◌>>=◌, giving, made_of, byte_at}
+use Rattle.bk_codec.specs.Reading.{◌>>=◌, giving, made_of}
 use Rattle.bk_codec.specs.Spelling.{IsBytes, Then}
 use Rattle.bk_codec.proofs.Steps.{bind_ok, made_ok, ok_is}
 use Rattle.bk_codec.proofs.Agreement.{Agrees, Takes, Takes-then, Takes-weaker, IsBytes-tail}
 use Rattle.compact_term.specs.declared.refusal.OperandRefusal.{OperandRefusal}
-use Rattle.compact_term.specs.declared.refusal.OperandRefusal.TheVariants.{Cut, Inner, Extended}
+use Rattle.compact_term.specs.declared.refusal.OperandRefusal.TheVariants.{Inner, Extended}
 use Rattle.compact_term.specs.declared.operand.Reg.{Reg}
 use Rattle.compact_term.specs.declared.operand.Reg.TheVariants as regs
 use Rattle.compact_term.specs.declared.operand.Plain.{Plain}

@@ -1,7 +1,6 @@
 -- An operand that is read leaves no more bytes than there were.
-use Rattle.std.proofs.Common.{◌≡◌, ℕ, ◌+◌, ◌/◌, ◌%◌, ◌*◌, ◌^◌, eqb, ltb, pos, List}
+use Rattle.std.proofs.Common.{ℕ, ◌+◌, ◌/◌, ◌%◌, ◌*◌, ◌^◌, eqb, ltb, pos}
 use Rattle.byteorder.specs.Endian.{twos_complement}
-use Rattle.bk_codec.specs.Reading.{◌>>=◌, giving, made_of}
 use Rattle.bk_codec.proofs.Keeps.{Keeps, keeps_none, keeps_giving, keeps_byte, keeps_bytes, keeps_number, keeps_if, keeps_made, keeps_then, keeps_step, keeps_many}
 use Rattle.compact_term.specs.declared.refusal.OperandRefusal.TheVariants.{Cut, Inner, Wide, Extended, Nested}
 use Rattle.compact_term.specs.declared.operand.Reg.TheVariants as regs

@@ -1,10 +1,9 @@
 -- Reading on lists never wants memory.
-use Rattle.std.proofs.Common.{◌≡◌, ℕ, ◌+◌, ◌/◌, ◌%◌, ◌*◌, ◌^◌, ◌<◌, true, false, eqb, ltb, cond, ℤ, pos, negsuc, List, Result, Ok, Err, inl, inr}
+use Rattle.std.proofs.Common.{◌≡◌, ℕ, ◌+◌, ◌/◌, ◌%◌, ◌*◌, ◌^◌, eqb, ltb, ℤ, pos, negsuc, Err, inl, inr}
 use Rattle.std.proofs.lemmas.Bool.{cases_lt, lt-ltb, le-ltb}
 use Rattle.byteorder.specs.Endian.{twos_complement}
-use Rattle.bk_codec.specs.Reading.{◌>>=◌, giving, made_of}
 use Rattle.bk_codec.proofs.Never.{Never, never_none, never_giving, never_byte, never_bytes, never_number, never_if, never_made, never_then, never_step, never_many}
-use Rattle.compact_term.specs.declared.refusal.OperandRefusal.TheVariants.{Cut, Inner, Wide, Negative, Extended, Nested, NoMemory}
+use Rattle.compact_term.specs.declared.refusal.OperandRefusal.TheVariants.{Cut, Inner, Wide, Extended, Nested, NoMemory}
 use Rattle.compact_term.specs.declared.operand.Reg.TheVariants as regs
 use Rattle.compact_term.specs.declared.operand.Plain.TheVariants as plains
 use Rattle.compact_term.specs.declared.operand.Operand.TheVariants as operands

@@ -1,5 +1,5 @@
 -- Numbers are read where they are spelled, and nowhere else.
-use Rattle.std.proofs.Common.{◌≡◌, ◌⊎◌, ℕ, zero, suc, ◌+◌, ◌-◌, ◌*◌, ◌/◌, ◌%◌, ◌^◌, ◌<◌, ◌≤◌, true, false, ltb, eqb, cond, ℤ, pos, negsuc, List, [], ◌∷◌, ◌++◌, length, Result, Ok, Err, refl, sym, ap, subst, ◌∙◌, append_assoc, arith, inl, inr}
+use Rattle.std.proofs.Common.{◌≡◌, ℕ, ◌+◌, ◌-◌, ◌*◌, ◌/◌, ◌%◌, ◌^◌, ◌<◌, ◌≤◌, ltb, eqb, cond, ℤ, pos, negsuc, List, [], ◌∷◌, ◌++◌, length, Result, Ok, Err, refl, sym, ap, subst, ◌∙◌, append_assoc, arith, inl, inr}
 use Rattle.std.proofs.lemmas.Bool.{cases_lt, cases_eq, ltb-false, lt-ltb, le-ltb, eq-eqb, ne_eqb}
 use Rattle.std.proofs.lemmas.Int.{ints}
 use Rattle.std.proofs.Math.Nat.{pow-le-pow_right}
@@ -10,10 +10,10 @@ use Rattle.bk_codec.specs.Spelling.{IsBytes, Then, SpellsNumber}
 use Rattle.bk_codec.proofs.Steps.{bind_ok, made_ok, ok_is, guard_ok}
 use Rattle.bk_codec.proofs.Agreement.{Agrees, Takes, Takes-then, Takes-weaker, byte_agrees, bytes_agree, number_agrees, IsBytes-tail}
 use Rattle.compact_term.specs.declared.refusal.OperandRefusal.{OperandRefusal}
-use Rattle.compact_term.specs.declared.refusal.OperandRefusal.TheVariants.{Cut, Inner, Wide, Negative}
+use Rattle.compact_term.specs.declared.refusal.OperandRefusal.TheVariants.{Cut, Inner, Wide}
 use Rattle.compact_term.specs.declared.operand.Plain.{Plain}
 use Rattle.compact_term.specs.declared.operand.Plain.TheVariants as plains
-use Rattle.compact_term.specs.Spelling.{InFourBits, InElevenBits, InTwosComplement, InFewBytes, IsShort, IsLong, InManyBytes, IsNumber, IsBelow, IsU, SpellsPlain}
+use Rattle.compact_term.specs.Spelling.{InFourBits, InTwosComplement, IsShort, IsLong, InManyBytes, IsNumber, IsBelow, IsU, SpellsPlain}
 use Rattle.compact_term.specs.Reading.{short_at, natural, length_at, whole_at, below_at, integer_at, u_at}
 
 -- ---- a byte in front

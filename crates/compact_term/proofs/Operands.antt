@@ -1,6 +1,6 @@
 -- Operands are read where they are spelled, and nowhere else.
-use Rattle.std.proofs.Common.{◌≡◌, ℕ, List, ◌++◌, length, Result, Ok, Err, refl, sym, ap, subst, ◌∙◌, append_assoc}
-use Rattle.bk_codec.specs.Reading.{◌>>=◌, giving, made_of, many_at}
+use Rattle.std.proofs.Common.{◌≡◌, ℕ, List, ◌++◌, length, Result, Ok, refl, sym, ap, subst, ◌∙◌, append_assoc}
+use Rattle.bk_codec.specs.Reading.{◌>>=◌, made_of, many_at}
 use Rattle.bk_codec.specs.Spelling.{IsBytes, Then, SpellsMany}
 use Rattle.bk_codec.proofs.Steps.{bind_ok, made_ok, ok_is}
 use Rattle.bk_codec.proofs.Agreement.{Agrees, AgreesOnMany, Takes, Takes-then, Takes-weaker, many_agree}
@@ -10,7 +10,7 @@ use Rattle.compact_term.specs.declared.operand.Operand.{Operand}
 use Rattle.compact_term.specs.declared.operand.Operand.TheVariants as operands
 use Rattle.compact_term.specs.declared.reader.Head.{Head}
 use Rattle.compact_term.specs.declared.reader.Head.TheVariants as heads
-use Rattle.compact_term.specs.Spelling.{IsU, IsZ, SpellsPlain, SpellsPair, Spells}
+use Rattle.compact_term.specs.Spelling.{IsU, SpellsPlain, SpellsPair, Spells}
 use Rattle.compact_term.specs.Reading.{u_at, head_at, member_of, member_at, pair_at, operand_of, operand_at}
 use Rattle.compact_term.proofs.Numbers.{u_agrees}
 use Rattle.compact_term.proofs.Heads.{SpellsHead, head_agrees}

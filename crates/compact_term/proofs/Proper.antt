@@ -1,5 +1,5 @@
 -- What bytes spell is a proper operand.
-use Rattle.std.proofs.Common.{◌≡◌, ℕ, ◌^◌, ◌<◌, ◌≤◌, ◌+◌, ◌-◌, ◌*◌, List, [], ◌∷◌, ◌++◌, length, ℤ, pos, negsuc, ◌-ℤ◌, zero, suc, SFits, ltb, refl, sym, ap, subst, ◌∙◌, arith, inl, inr, All}
+use Rattle.std.proofs.Common.{◌≡◌, ℕ, ◌^◌, ◌<◌, ◌≤◌, ◌+◌, ◌-◌, ◌*◌, List, [], ◌∷◌, ◌++◌, length, ℤ, pos, ◌-ℤ◌, zero, suc, SFits, refl, sym, ap, subst, ◌∙◌, arith, inl, inr, All}
 use Rattle.std.proofs.lemmas.Bool.{cases_lt, lt-ltb, le-ltb}
 use Rattle.std.proofs.lemmas.Int.{ints}
 use Rattle.std.proofs.lemmas.List.Elements.{All-nil, All-cons}
@@ -8,7 +8,7 @@ use Rattle.std.proofs.lemmas.Nat.{pow-add}
 use Rattle.std.specs.Int.{w128}
 use Rattle.std.specs.Int.Signed.{mag}
 use Rattle.byteorder.specs.Endian.{twos_complement}
-use Rattle.bk_codec.specs.Spelling.{IsBytes, Then, SpellsMany}
+use Rattle.bk_codec.specs.Spelling.{IsBytes, SpellsMany}
 use Rattle.bk_codec.proofs.Agreement.{IsBytes-front, IsBytes-back, IsBytes-tail}
 use Rattle.compact_term.specs.declared.operand.Reg.{Reg}
 use Rattle.compact_term.specs.declared.operand.Reg.TheVariants as regs
@@ -16,7 +16,7 @@ use Rattle.compact_term.specs.declared.operand.Plain.{Plain}
 use Rattle.compact_term.specs.declared.operand.Plain.TheVariants as plains
 use Rattle.compact_term.specs.declared.operand.Operand.{Operand}
 use Rattle.compact_term.specs.declared.operand.Operand.TheVariants as operands
-use Rattle.compact_term.specs.Spelling.{InTwosComplement, IsShort, IsNumber, IsU, SpellsReg, SpellsPlain, SpellsPair, Spells}
+use Rattle.compact_term.specs.Spelling.{InTwosComplement, IsNumber, SpellsReg, SpellsPlain, SpellsPair, Spells}
 use Rattle.compact_term.specs.Operand.{IsReg, IsPlain, IsPair, IsOperand}
 
 -- ---- numbers

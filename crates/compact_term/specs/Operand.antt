@@ -1,5 +1,5 @@
 -- Proper operands: each number in the range of its type, and a wide integer of at least 17 bytes.
-use Rattle.std.specs.Prelude.{ℕ, ◌^◌, ◌<◌, ◌≤◌, List, length, All, FitsSigned}
+use Rattle.std.specs.Prelude.{ℕ, ◌^◌, ◌<◌, ◌≤◌, length, All, FitsSigned}
 use Rattle.std.specs.Int.{w128}
 use Rattle.bk_codec.specs.Spelling.{IsBytes}
 use Rattle.compact_term.specs.declared.operand.Reg.{Reg}

@@ -23,7 +23,9 @@ pub enum Plain {
     Wide(WideInteger),
     /// The number of an atom; 0 is the empty list.
     A(u32),
+    /// A register that is shared by all functions.
     X(u32),
+    /// A slot of the function's frame.
     Y(u32),
     /// A label; 0 is none.
     F(u32),
@@ -40,7 +42,9 @@ pub enum Plain {
 /// An operand of an instruction.
 #[derive(Debug, Drop)]
 pub enum Operand {
+    /// An operand that holds no others.
     One(Plain),
+    /// A list of operands that hold no others.
     List(PlainList),
     /// An allocation list: pairs of a kind and an amount.
     Alloc(PairList),

@@ -54,6 +54,7 @@ fn unsigned(cur: &mut Cursor<'_>) -> Result<u64, OperandRefusal>
     at_most(cur, u64::MAX, first)
 }
 
+// A number of 32 bits.
 fn at_most_32(cur: &mut Cursor<'_>, first: u8) -> Result<u32, OperandRefusal>
     ensures { Gives OperandRefusal.NoMemory (λ n. n) cur.new.rest result (below_at (2 ^ 32) first cur.old.rest) }
 {
@@ -86,14 +87,14 @@ fn extended(cur: &mut Cursor<'_>, value: u64) -> Result<Head, OperandRefusal>
         4 => Ok(Head::Plain(Plain::Lit(unsigned(cur)?))),
         5 => {
             let reg = register(cur)?;
-            let kind = unsigned(cur)?;
-            Ok(Head::Plain(Plain::Typed(reg, kind)))
+            let type_number = unsigned(cur)?;
+            Ok(Head::Plain(Plain::Typed(reg, type_number)))
         }
         _ => Err(OperandRefusal::Extended { value }),
     }
 }
 
-// What a first byte begins, by its tag.
+// What a first byte begins, by its tag: `u`, `i`, `a`, `x`, `y`, `f`, `h` and `z` in this order from 0.
 #[tactic(auto, unfolding(crate::specs::Reading::tagged))]
 fn by_tag(alloc: Global, cur: &mut Cursor<'_>, first: u8) -> Result<Head, OperandRefusal>
     ensures { Gives OperandRefusal.NoMemory (λ h. h) cur.new.rest result (tagged (first % 8) first cur.old.rest) }
@@ -113,6 +114,7 @@ fn by_tag(alloc: Global, cur: &mut Cursor<'_>, first: u8) -> Result<Head, Operan
     }
 }
 
+// What the bytes begin with.
 #[tactic(auto, unfolding(crate::specs::Reading::head_at))]
 fn beginning(alloc: Global, cur: &mut Cursor<'_>) -> Result<Head, OperandRefusal>
     ensures { Gives OperandRefusal.NoMemory (λ h. h) cur.new.rest result (head_at cur.old.rest) }
@@ -132,6 +134,7 @@ fn member(alloc: Global, cur: &mut Cursor<'_>) -> Result<Plain, OperandRefusal>
     }
 }
 
+// The members of a list, as many as it states. No room is taken by their stated number.
 fn members(alloc: Global, cur: &mut Cursor<'_>, count: u64) -> Result<PlainList, OperandRefusal>
     ensures { Gives OperandRefusal.NoMemory (λ ps. ps) cur.new.rest result (many_at member_at count cur.old.rest) }
 {
@@ -153,6 +156,7 @@ fn pair(cur: &mut Cursor<'_>) -> Result<(u64, u64), OperandRefusal>
     Ok((kind, amount))
 }
 
+// The pairs of an allocation list, in the same way.
 fn pairs(alloc: Global, cur: &mut Cursor<'_>, count: u64) -> Result<PairList, OperandRefusal>
     ensures { Gives OperandRefusal.NoMemory (λ ps. ps) cur.new.rest result (many_at pair_at count cur.old.rest) }
 {
@@ -164,6 +168,7 @@ fn pairs(alloc: Global, cur: &mut Cursor<'_>, count: u64) -> Result<PairList, Op
     Ok(list)
 }
 
+// An operand with all its parts.
 #[tactic(auto, unfolding(crate::specs::Reading::operand_at))]
 fn whole_operand(alloc: Global, cur: &mut Cursor<'_>) -> Result<Operand, OperandRefusal>
     ensures { Gives OperandRefusal.NoMemory (λ o. o) cur.new.rest result (operand_at cur.old.rest) }

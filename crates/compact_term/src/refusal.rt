@@ -28,6 +28,7 @@ pub enum OperandRefusal {
     /// A member of a list is a list or an allocation list.
     #[error("a list stands in a list")]
     Nested,
+    /// Memory ran out.
     #[error("out of memory")]
     NoMemory,
 }

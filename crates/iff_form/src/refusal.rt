@@ -26,6 +26,7 @@ pub enum FormRefusal {
     /// The chunk at this offset has an id that stood before.
     #[error("chunk id twice at {at}")]
     Twice { id: Id, at: usize },
+    /// Memory ran out.
     #[error("out of memory")]
     NoMemory,
 }

@@ -16,7 +16,8 @@ use std::alloc::Global;
 /// A payload is a line `chunk ID`, and lines of two spaces and 32 bytes in hexadecimal, the last one
 /// with the rest; an empty payload has none. Code is a line `code H L F E` with the highest opcode,
 /// the counts of labels and of functions, and the extra bytes of the sub-header in hexadecimal or
-/// `-` for none, and a line of two spaces, the name and the operands for each instruction.
+/// `-` for none, and a line of two spaces, the name and the operands for each instruction. There are
+/// no comments.
 ///
 /// It fails only where memory is wanting.
 pub fn listing(alloc: Global, v: &FileVal) -> Result<Bytes, NoMemory>

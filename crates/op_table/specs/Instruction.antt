@@ -1,5 +1,5 @@
 -- An instruction is an opcode with as many operands as the table says.
-use Rattle.std.specs.Prelude.{◌≡◌, ℕ, Option, Some, List, length}
+use Rattle.std.specs.Prelude.{◌≡◌, ℕ, Some, List, length}
 use Rattle.compact_term.specs.declared.operand.Operand.{Operand}
 use Rattle.op_table.specs.Table.{arity_of}
 

@@ -1,5 +1,5 @@
 -- The opcodes from 1 to 182: each with its name and the number of its operands.
-use Rattle.std.specs.Prelude.{◌≡◌, ℕ, Option, Some, List, [], ◌∷◌, ◌==◌, codes, find, length, option_map}
+use Rattle.std.specs.Prelude.{ℕ, Option, List, [], ◌∷◌, ◌==◌, codes, find, option_map}
 use Rattle.op_table.specs.declared.row.OpRow.{OpRow}
 use Rattle.op_table.specs.declared.row.Profile.{Profile}
 use Rattle.op_table.specs.declared.row.Profile.TheVariants.{Typed, Later, Out}

@@ -19,9 +19,13 @@ pub enum Profile {
 /// An opcode with its name and the number of its operands.
 #[derive(Clone, Copy, Debug)]
 pub struct OpRow {
+    /// The opcode.
     pub op: u8,
+    /// Its name, as it is listed.
     pub name: &'static str,
+    /// How many operands an instruction of it has.
     pub arity: u8,
+    /// What is done with it.
     pub profile: Profile,
 }
 

@@ -1,4 +1,4 @@
-use Rattle.std.proofs.Common.{◌≡◌, ◌∙◌, ap, sym, Some}
+use Rattle.std.proofs.Common.{◌∙◌, ap, sym, Some}
 use Rattle.bk_codec.proofs.Agreement.{many_at-length}
 use Rattle.code_chunk.specs.Reading.{end_of, operand_in}
 use Rattle.code_chunk.proofs.instructions.instruction.Goals as goal

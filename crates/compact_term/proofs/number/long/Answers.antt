@@ -1,4 +1,4 @@
-use Rattle.std.proofs.Common.{rules, ◌≡◌, ◌≤◌, SFits, length, take, drop, arith, ap}
+use Rattle.std.proofs.Common.{rules, ◌≤◌, SFits, length, ap}
 use Rattle.std.specs.Int.{w128}
 use Rattle.compact_term.proofs.Taken.{number_taken}
 use Rattle.compact_term.proofs.number.long.Goals as goal

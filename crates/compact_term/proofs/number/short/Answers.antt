@@ -1,4 +1,4 @@
-use Rattle.std.proofs.Common.{rules, ◌≡◌, ◌+◌, ◌/◌, ◌%◌, ◌≤◌, SFits, length, take, drop, arith, ap, ◌∙◌, sym, subst, ℕ}
+use Rattle.std.proofs.Common.{rules, ◌+◌, ◌≤◌, SFits, length, arith, ap, ◌∙◌}
 use Rattle.std.specs.Int.{w64}
 use Rattle.compact_term.proofs.Taken.{number_taken, in_few_bytes}
 use Rattle.compact_term.proofs.number.short.Goals as goal

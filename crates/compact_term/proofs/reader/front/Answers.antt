@@ -1,5 +1,4 @@
-use Rattle.std.proofs.Common.{◌≡◌, ◌≤◌, length, ap, ◌∙◌, Ok, arith}
-use Rattle.compact_term.specs.Reading.{operand_at, Begins}
+use Rattle.std.proofs.Common.{arith}
 use Rattle.compact_term.proofs.Fronts.{WasRead, was_read}
 use Rattle.compact_term.proofs.reader.front.Goals as goal
 

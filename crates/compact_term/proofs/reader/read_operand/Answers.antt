@@ -1,4 +1,4 @@
-use Rattle.std.proofs.Common.{◌≡◌, ap, ◌∙◌, inl, inr, sym, Ok, Err}
+use Rattle.std.proofs.Common.{ap, ◌∙◌, inl, inr, Ok, Err}
 use Rattle.std.proofs.lemmas.Result.{err_from_is_err_and}
 use Rattle.compact_term.proofs.Fronts.{same_operand, only_memory}
 use Rattle.compact_term.proofs.reader.read_operand.Goals as goal

@@ -1,5 +1,4 @@
-use Rattle.std.proofs.Common.{◌≡◌, ◌<◌, ◌+◌, ap, ◌∙◌, arith, rules}
-use Rattle.std.specs.List.{slice_get}
+use Rattle.std.proofs.Common.{◌≡◌, ◌<◌, ◌+◌, arith}
 use Rattle.std.specs.Option.{option_map, option_copied}
 use Rattle.op_table.specs.Table.{row_of, row_with}
 use Rattle.op_table.proofs.Numbered.{row_with-place, row_with-none, copied_at, arity_in}
