@@ -314,10 +314,54 @@ fn code_is_listed_or_refused(rt: HostRuntime) -> Result<(), Fail> {
         3,
         "",
         "Code: operand at 22: negative, tag 0",
-    )?;
-    code.truncate(20);
-    code.extend_from_slice(b"\x40\x17\xf8\0\0\xff\xff\xff\xff\xff\xff\xff\xff")?;
-    lists(&rt, code.as_slice(), 3, "", "Code: operand at 21: cut")
+    )
+}
+
+// A payload of code whose one instruction is `move` with these bytes behind its opcode.
+fn moving(alloc: Global, operands: &[u8]) -> Result<Vec<u8>, Fail> {
+    let mut code = Vec::new(alloc);
+    code.extend_from_slice(b"\0\0\0\x10\0\0\0\0\0\0\0\x03\0\0\0\x01\0\0\0\0\x40")?;
+    code.extend_from_slice(operands)?;
+    Ok(code)
+}
+
+#[test]
+fn operands_are_listed_or_refused(rt: HostRuntime) -> Result<(), Fail> {
+    for (operands, text) in [
+        (b"\xf1\x03".as_slice(), "i15"),
+        (b"\x09\x10\x03", "i16"),
+        (b"\xe9\xff\x03", "i2047"),
+        (b"\x19\x08\x00\x03", "i2048"),
+        (b"\x19\xff\xff\x03", "i-1"),
+        (b"\x19\x80\x00\x03", "i-32768"),
+        (b"\x39\xff\x7f\xff\x03", "i-32769"),
+        (
+            b"\xf9\x70\x7f\xff\xff\xff\xff\xff\xff\xff\xff\xff\xff\xff\xff\xff\xff\xff\x03",
+            "i170141183460469231731687303715884105727",
+        ),
+        (b"\x57\x03\x70\x03", "x0/7"),
+        (b"\x37\x20\x00\x50\x20\x10\x03", "{0:5,2:1}"),
+    ] {
+        let code = moving(rt.alloc(), operands)?;
+        let mut listing = String::new(rt.alloc());
+        write!(listing, "beam 1\ncode 3 1 0 -\n  move {text} x0\n")?;
+        lists(&rt, code.as_slice(), 0, listing.as_str(), "")?;
+    }
+    for (operands, why) in [
+        (b"".as_slice(), "cut"),
+        (b"\x07", "extended 0"),
+        (b"\x18\xff\xff", "negative, tag 0"),
+        (b"\x17\x10\x17\x00", "nested"),
+        (b"\x47\x01", "inner"),
+        (b"\xf8\xf8", "too wide, tag 0"),
+        (b"\x17\xf8\0\0\xff\xff\xff\xff\xff\xff\xff\xff", "cut"),
+    ] {
+        let code = moving(rt.alloc(), operands)?;
+        let mut message = String::new(rt.alloc());
+        write!(message, "Code: operand at 21: {why}")?;
+        lists(&rt, code.as_slice(), 3, "", message.as_str())?;
+    }
+    Ok(())
 }
 
 #[test]
