@@ -6,7 +6,7 @@ use Rattle.listing_out.specs.Lines.{listing_of}
 use Rattle.beam_cli.specs.declared.refusal.Refusal.{Refusal}
 use Rattle.beam_cli.specs.declared.status.Status.{Status}
 use Rattle.beam_cli.specs.declared.status.Status.TheVariants.{Done, Usage, Grammar, TooLarge}
-use Rattle.beam_cli.specs.Words.{Asked, Info, Show, Disasm, asked_by}
+use Rattle.beam_cli.specs.Words.{Asked, Info, Show, Disasm, asked_by, name_of}
 use Rattle.beam_cli.specs.Message.{line_about, usage_line, too_large_line, refusal_text}
 use Rattle.beam_cli.specs.Needs.{chunks_of, value_of_file}
 use Rattle.beam_cli.specs.Showing.{show_output}
@@ -44,11 +44,15 @@ disasm_output bytes = value_of_file bytes >>= λ value. Ok (listing_of value)
 abbrev pub of_file : (List ℕ → Result (List ℕ) Refusal) → List ℕ → List ℕ → Answer
 of_file output name bytes = if nat_lt 16777216 (length bytes) then stopped (too_large_line name) TooLarge else answered name (output bytes)
 
+-- the output of a command for the bytes of its file
+abbrev pub output_of : Asked → List ℕ → Result (List ℕ) Refusal
+output_of (Info name) = info_output
+output_of (Show what name) = show_output what
+output_of (Disasm name) = disasm_output
+
 -- none where what a named file holds is not told
 abbrev pub asked_answer : (List ℕ → Option (List ℕ)) → Asked → Option Answer
-asked_answer holds (Info name) = option_map (of_file info_output name) (holds name)
-asked_answer holds (Show what name) = option_map (of_file (show_output what) name) (holds name)
-asked_answer holds (Disasm name) = option_map (of_file disasm_output name) (holds name)
+asked_answer holds asked = option_map (of_file (output_of asked) (name_of asked)) (holds (name_of asked))
 
 abbrev pub answer_or_usage : (List ℕ → Option (List ℕ)) → Option Asked → Option Answer
 answer_or_usage holds None = Some (stopped usage_line Usage)

@@ -41,9 +41,13 @@ asked_by (word ∷ name ∷ []) = if is_name name then of_file_asked word name e
 asked_by (word ∷ what ∷ name ∷ []) = if bytes_eq word (codes "show") && is_name name then show_asked (shown_by what) name else None
 asked_by words = None
 
+-- the name of the file that a command asks for
+abbrev pub name_of : Asked → List ℕ
+name_of (Info name) = name
+name_of (Show what name) = name
+name_of (Disasm name) = name
+
 -- the names of the files, in the order of the words
 abbrev pub named : Option Asked → List (List ℕ)
 named None = []
-named (Some (Info name)) = name ∷ []
-named (Some (Show what name)) = name ∷ []
-named (Some (Disasm name)) = name ∷ []
+named (Some asked) = name_of asked ∷ []

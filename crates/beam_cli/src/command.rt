@@ -18,6 +18,19 @@ pub enum Command<'a> {
     Disasm(&'a Text),
 }
 
+impl<'a> Command<'a> {
+    ghost use Rattle.beam_cli.specs.Words.{name_of};
+
+    /// The name of the file.
+    pub fn name(self) -> &'a Text
+        ensures { result.now ≡ name_of (asked self.entry) }
+    {
+        match self {
+            Command::Info(name) | Command::Show(_, name) | Command::Disasm(name) => name,
+        }
+    }
+}
+
 // Whether a word names a file.
 fn names_file(word: &Text) -> bool
     ensures { result ≡ is_name word.now }

@@ -4,9 +4,9 @@ ghost use Rattle.std.specs.Prelude.{◌≡◌, ◌≤◌, ◌⊎◌, ℕ, List, 
 ghost use Rattle.bk_codec.specs.Reading.{GivesAll};
 ghost use Rattle.bk_port.specs.Causes.{Rose};
 ghost use Rattle.bk_port.specs.Reading.{IsLeftAfter, HasReadAtMost};
-ghost use Rattle.beam_cli.specs.Words.{Info, Show, Disasm, named};
+ghost use Rattle.beam_cli.specs.Words.{named};
 ghost use Rattle.beam_cli.specs.Asking.{asked};
-ghost use Rattle.beam_cli.specs.Answer.{made, info_output, disasm_output, asked_answer};
+ghost use Rattle.beam_cli.specs.Answer.{made, info_output, disasm_output, output_of, asked_answer};
 ghost use Rattle.beam_cli.specs.Outcome.{SomeLeft};
 ghost use Rattle.beam_cli.specs.Stopping.{HasReason, HasLoadReason, IsTooLarge, stop_of};
 
@@ -14,7 +14,6 @@ use crate::command::Command;
 use crate::needs::{form_of, value_of_file};
 use crate::refusal::Refusal;
 use crate::showing::show_text;
-use crate::shown::Shown;
 use crate::stop::Stop;
 use bk_base::{Bytes, Text};
 use bk_port::{Host, LoadFault, load};
@@ -69,59 +68,14 @@ fn stop_for<'a>(name: &'a Text, refusal: Refusal) -> Stop<'a>
     }
 }
 
-// The output of `info` on a file.
-fn make_info<'a, H: Host>(alloc: Global, host: &mut H, name: &'a Text) -> Result<Bytes, Stop<'a>>
-    ensures ok { IfOk result (λ text. IfSome (asked_answer (H.holds host.old) (Info name.now)) (λ a. a ≡ made text.items)) }
-    ensures reason { IfErr result (HasReason (asked_answer (H.holds host.old) (Info name.now))
-        (λ n. Rose (H.faults host.old n) (H.faults host.new n)) (name.now ∷ [])) }
-    ensures too_large { IfErr result (λ stop. IsTooLarge stop → H.count host.new ≡ 16777217) }
-    ensures not_too_large { IfErr result (λ stop. IsTooLarge stop ⊎ HasReadAtMost 16777216 (H.count host.old) (H.count host.new)) }
-    ensures at_most { OnOk result (HasReadAtMost 16777216 (H.count host.old) (H.count host.new)) }
-    ensures left { SomeLeft (H.holds host.old) (H.left host.old) (H.left host.new) (name.now ∷ []) }
+// The output of a command for the bytes of its file.
+fn output_of(alloc: Global, command: Command<'_>, bytes: &[u8]) -> Result<Bytes, Refusal>
+    ensures { GivesAll Refusal.NoMemory (λ text. text.items) result (output_of (asked command.entry) bytes.now) }
 {
-    let bytes = load_file(alloc, host, name)?;
-    match info_of(alloc, bytes.as_slice()) {
-        Ok(text) => Ok(text),
-        Err(refusal) => Err(stop_for(name, refusal)),
-    }
-}
-
-// The output of `show` on a file.
-fn make_show<'a, H: Host>(
-    alloc: Global,
-    host: &mut H,
-    what: Shown,
-    name: &'a Text,
-) -> Result<Bytes, Stop<'a>>
-    ensures ok { IfOk result (λ text. IfSome (asked_answer (H.holds host.old) (Show what name.now)) (λ a. a ≡ made text.items)) }
-    ensures reason { IfErr result (HasReason (asked_answer (H.holds host.old) (Show what name.now))
-        (λ n. Rose (H.faults host.old n) (H.faults host.new n)) (name.now ∷ [])) }
-    ensures too_large { IfErr result (λ stop. IsTooLarge stop → H.count host.new ≡ 16777217) }
-    ensures not_too_large { IfErr result (λ stop. IsTooLarge stop ⊎ HasReadAtMost 16777216 (H.count host.old) (H.count host.new)) }
-    ensures at_most { OnOk result (HasReadAtMost 16777216 (H.count host.old) (H.count host.new)) }
-    ensures left { SomeLeft (H.holds host.old) (H.left host.old) (H.left host.new) (name.now ∷ []) }
-{
-    let bytes = load_file(alloc, host, name)?;
-    match show_text(alloc, what, bytes.as_slice()) {
-        Ok(text) => Ok(text),
-        Err(refusal) => Err(stop_for(name, refusal)),
-    }
-}
-
-// The output of `disasm` on a file.
-fn make_disasm<'a, H: Host>(alloc: Global, host: &mut H, name: &'a Text) -> Result<Bytes, Stop<'a>>
-    ensures ok { IfOk result (λ text. IfSome (asked_answer (H.holds host.old) (Disasm name.now)) (λ a. a ≡ made text.items)) }
-    ensures reason { IfErr result (HasReason (asked_answer (H.holds host.old) (Disasm name.now))
-        (λ n. Rose (H.faults host.old n) (H.faults host.new n)) (name.now ∷ [])) }
-    ensures too_large { IfErr result (λ stop. IsTooLarge stop → H.count host.new ≡ 16777217) }
-    ensures not_too_large { IfErr result (λ stop. IsTooLarge stop ⊎ HasReadAtMost 16777216 (H.count host.old) (H.count host.new)) }
-    ensures at_most { OnOk result (HasReadAtMost 16777216 (H.count host.old) (H.count host.new)) }
-    ensures left { SomeLeft (H.holds host.old) (H.left host.old) (H.left host.new) (name.now ∷ []) }
-{
-    let bytes = load_file(alloc, host, name)?;
-    match listing_of(alloc, bytes.as_slice()) {
-        Ok(text) => Ok(text),
-        Err(refusal) => Err(stop_for(name, refusal)),
+    match command {
+        Command::Info(_) => info_of(alloc, bytes),
+        Command::Show(what, _) => show_text(alloc, what, bytes),
+        Command::Disasm(_) => listing_of(alloc, bytes),
     }
 }
 
@@ -139,9 +93,10 @@ pub fn make<'a, H: Host>(
     ensures at_most { OnOk result (HasReadAtMost 16777216 (H.count host.old) (H.count host.new)) }
     ensures left { SomeLeft (H.holds host.old) (H.left host.old) (H.left host.new) (named (Some (asked command.entry))) }
 {
-    match command {
-        Command::Info(name) => make_info(alloc, host, name),
-        Command::Show(what, name) => make_show(alloc, host, what, name),
-        Command::Disasm(name) => make_disasm(alloc, host, name),
+    let name = command.name();
+    let bytes = load_file(alloc, host, name)?;
+    match output_of(alloc, command, bytes.as_slice()) {
+        Ok(text) => Ok(text),
+        Err(refusal) => Err(stop_for(name, refusal)),
     }
 }
