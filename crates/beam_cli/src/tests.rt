@@ -1,6 +1,6 @@
 use super::*;
 use bk_base::Bytes;
-use bk_port::{FileList, MemHost, MemSink, NumberList, ScriptHost, ScriptSink};
+use bk_port::{FileList, Host, MemHost, MemSink, NumberList, ScriptHost, ScriptSink, Sink};
 use std::process::Abort;
 use std::test::Fail;
 
@@ -38,13 +38,24 @@ fn files_of(alloc: Global, file: &[u8]) -> Result<FileList, Fail> {
     Ok(files)
 }
 
+// Calls the program over this host and this output, and gives the status and the message.
+fn call_over<H: Host, O: Sink>(
+    alloc: Global,
+    words: &[&str],
+    host: &mut H,
+    out: &mut O,
+) -> Result<(Status, MemSink), Fail> {
+    let words = words_of(alloc, words)?;
+    let mut err = MemSink::new(alloc, 1000)?;
+    let status = run(alloc, &words, host, out, &mut err);
+    Ok((status, err))
+}
+
 // Calls the program with these words and the file `F`, with room for so many bytes of output.
 fn call(alloc: Global, words: &[&str], file: &[u8], room: usize) -> Result<Outcome, Fail> {
-    let words = words_of(alloc, words)?;
     let mut host = MemHost::new(files_of(alloc, file)?);
     let mut out = MemSink::new(alloc, room)?;
-    let mut err = MemSink::new(alloc, 1000)?;
-    let status = run(alloc, &words, &mut host, &mut out, &mut err);
+    let (status, err) = call_over(alloc, words, &mut host, &mut out)?;
     Ok(Outcome { status, out, err })
 }
 
@@ -378,11 +389,9 @@ fn faults_and_limits_have_their_status(rt: HostRuntime) -> Result<(), Fail> {
         refused.err.written(),
         b"beamkit: F: more than 16777216 bytes\n".as_slice()
     );
-    let words = words_of(alloc, &["info", "no such file"])?;
     let mut out = MemSink::new(alloc, 100)?;
-    let mut err = MemSink::new(alloc, 100)?;
     let mut host = FileHost::new(rt);
-    let status = run(alloc, &words, &mut host, &mut out, &mut err);
+    let (status, err) = call_over(alloc, &["info", "no such file"], &mut host, &mut out)?;
     assert_eq!(rt; status, Status::ReadFault);
     assert_eq!(rt;
         err.written(),
@@ -394,20 +403,17 @@ fn faults_and_limits_have_their_status(rt: HostRuntime) -> Result<(), Fail> {
 #[test]
 fn calls_that_fail_have_their_status(rt: HostRuntime) -> Result<(), Fail> {
     let alloc = rt.alloc();
-    let words = words_of(alloc, &["info", "F"])?;
-    let mut err = MemSink::new(alloc, 100)?;
     let mut fails = NumberList::new(alloc);
     fails.push(3)?;
     let mut host = ScriptHost::new(files_of(alloc, SAMPLE)?, 20, fails);
     let mut out = MemSink::new(alloc, 100)?;
-    let status = run(alloc, &words, &mut host, &mut out, &mut err);
+    let (status, err) = call_over(alloc, &["info", "F"], &mut host, &mut out)?;
     assert_eq!(rt; status, Status::ReadFault);
     assert_eq!(rt; out.written(), b"".as_slice());
     assert_eq!(rt; err.written(), b"beamkit: F: read fault\n".as_slice());
     let mut host = MemHost::new(files_of(alloc, SAMPLE)?);
     let mut out = ScriptSink::new(alloc, 100, 5, 2)?;
-    let mut err = MemSink::new(alloc, 100)?;
-    let status = run(alloc, &words, &mut host, &mut out, &mut err);
+    let (status, err) = call_over(alloc, &["info", "F"], &mut host, &mut out)?;
     assert_eq!(rt; status, Status::WriteFault);
     assert_eq!(rt; out.written(), b"form ".as_slice());
     assert_eq!(rt; err.written(), b"beamkit: write fault\n".as_slice());
