@@ -1,6 +1,6 @@
 use super::*;
 use bk_base::Bytes;
-use bk_port::{FileList, Host, MemHost, MemSink, Sink};
+use bk_port::{FileList, Host, MemHost, MemSink, NumberList, ScriptHost, ScriptSink, Sink};
 use std::process::Abort;
 use std::test::Fail;
 
@@ -397,5 +397,31 @@ fn faults_and_limits_have_their_status(rt: HostRuntime) -> Result<(), Fail> {
         err.written(),
         b"beamkit: no such file: read fault\n".as_slice()
     );
+    Ok(())
+}
+
+#[test]
+fn a_read_that_fails_has_its_status(rt: HostRuntime) -> Result<(), Fail> {
+    let alloc = rt.alloc();
+    let mut fails = NumberList::new(alloc);
+    fails.push(3)?;
+    let mut host = ScriptHost::new(files_of(alloc, SAMPLE)?, 20, fails);
+    let mut out = MemSink::new(alloc, 100)?;
+    let (status, err) = call_over(alloc, &["info", "F"], &mut host, &mut out)?;
+    assert_eq!(rt; status, Status::ReadFault);
+    assert_eq!(rt; out.written(), b"".as_slice());
+    assert_eq!(rt; err.written(), b"beamkit: F: read fault\n".as_slice());
+    Ok(())
+}
+
+#[test]
+fn a_write_that_fails_has_its_status(rt: HostRuntime) -> Result<(), Fail> {
+    let alloc = rt.alloc();
+    let mut host = MemHost::new(files_of(alloc, SAMPLE)?);
+    let mut out = ScriptSink::new(alloc, 100, 5, 2)?;
+    let (status, err) = call_over(alloc, &["info", "F"], &mut host, &mut out)?;
+    assert_eq!(rt; status, Status::WriteFault);
+    assert_eq!(rt; out.written(), b"form ".as_slice());
+    assert_eq!(rt; err.written(), b"beamkit: write fault\n".as_slice());
     Ok(())
 }
