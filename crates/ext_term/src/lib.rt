@@ -1,9 +1,13 @@
-//! External terms as text.
+//! External terms: reading them, writing them, and their text.
 #![tactic(auto)]
 
 mod name;
+mod refusal;
+mod term;
 
 pub use name::name_text;
+pub use refusal::TermRefusal;
+pub use term::{Term, TermList, TermPairList};
 
 #[cfg(test)]
 mod tests;
