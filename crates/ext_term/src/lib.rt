@@ -2,6 +2,8 @@
 #![tactic(auto)]
 
 mod name;
+mod parts;
+mod reading;
 mod refusal;
 mod term;
 

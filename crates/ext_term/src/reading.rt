@@ -1,0 +1,189 @@
+//! Reading a term.
+
+ghost use Rattle.std.specs.Prelude.{◌≡◌, ◌-◌, ◌⊎◌, ◌<◌, IfOk, IfErr, Ok, Err};
+ghost use Rattle.bk_codec.specs.Reading.{Fails, Gives, GivesAll, many_at};
+ghost use Rattle.ext_term.specs.Spelling.{SpellsFile};
+ghost use Rattle.ext_term.specs.Reading.{end_of, tag_at, name_at, arity_at, export_at, pair_at, nested_at, tagged_at, term_at, file_at, term_of};
+ghost use Rattle.ext_term.specs.declared.refusal.TermRefusal.TheVariants as refusals;
+
+use crate::parts::{atom, flat, integer, number};
+use crate::refusal::TermRefusal;
+use crate::term::{Term, TermList, TermPairList};
+use bk_base::{Cursor, Text};
+use sqlite_items::Boxed;
+use std::alloc::Global;
+
+// The byte before each term in a file.
+const VERSION: u8 = 131;
+
+// How many terms may stand in one another.
+const DEPTH: usize = 256;
+
+// The tag of a term, where `levels` terms may stand in one another.
+#[tactic(auto, unfolding(crate::specs::Reading::tag_at))]
+fn tag(cur: &mut Cursor<'_>, levels: usize) -> Result<u8, TermRefusal>
+    ensures read { Gives refusals.NoMemory (λ tag. tag) cur.new.rest result (tag_at (end_of cur.old) levels cur.old.rest) }
+    ensures end { end_of cur.new ≡ end_of cur.old }
+{
+    let at = cur.at();
+    let tag = cur.byte().ok_or(TermRefusal::Cut)?;
+    if levels == 0 {
+        return Err(TermRefusal::Depth { at });
+    }
+    Ok(tag)
+}
+
+// A name in an external function.
+#[tactic(auto, unfolding(crate::specs::Reading::name_at))]
+fn name(alloc: Global, cur: &mut Cursor<'_>, levels: usize) -> Result<Text, TermRefusal>
+    ensures read { Gives refusals.NoMemory (λ t. t) cur.new.rest result (name_at (end_of cur.old) levels cur.old.rest) }
+    ensures end { end_of cur.new ≡ end_of cur.old }
+{
+    let at = cur.at();
+    let tag = tag(cur, levels)?;
+    match tag {
+        100 | 115 | 118 | 119 => atom(alloc, cur, at, tag),
+        _ => Err(TermRefusal::Tag { tag, at }),
+    }
+}
+
+// The arity of an external function.
+#[tactic(auto, unfolding(crate::specs::Reading::arity_at))]
+fn arity(cur: &mut Cursor<'_>, levels: usize) -> Result<u8, TermRefusal>
+    ensures read { Gives refusals.NoMemory (λ n. n) cur.new.rest result (arity_at (end_of cur.old) levels cur.old.rest) }
+    ensures end { end_of cur.new ≡ end_of cur.old }
+{
+    let at = cur.at();
+    let tag = tag(cur, levels)?;
+    if tag != 97 {
+        return Err(TermRefusal::Tag { tag, at });
+    }
+    Ok(cur.byte().ok_or(TermRefusal::Cut)?)
+}
+
+// An external function.
+#[tactic(auto, unfolding(crate::specs::Reading::export_at))]
+fn export(alloc: Global, cur: &mut Cursor<'_>, levels: usize) -> Result<Term, TermRefusal>
+    ensures read { Gives refusals.NoMemory (λ t. t) cur.new.rest result (export_at (end_of cur.old) levels cur.old.rest) }
+    ensures end { end_of cur.new ≡ end_of cur.old }
+{
+    let module = name(alloc, cur, levels)?;
+    let function = name(alloc, cur, levels)?;
+    let arity = arity(cur, levels)?;
+    Ok(Term::Export(module, function, arity))
+}
+
+// Terms, as many as a count says. No room is taken by that count.
+#[cycle(reading)]
+fn terms(
+    alloc: Global,
+    cur: &mut Cursor<'_>,
+    levels: usize,
+    count: u64,
+) -> Result<TermList, TermRefusal>
+    ensures read { Gives refusals.NoMemory (λ ts. ts) cur.new.rest result (many_at (term_at (end_of cur.old) levels) count cur.old.rest) }
+    ensures end { end_of cur.new ≡ end_of cur.old }
+{
+    let mut items = TermList::new(alloc);
+    for _ in 0..count {
+        let t = term(alloc, cur, levels)?;
+        items.push(t)?;
+    }
+    Ok(items)
+}
+
+// A key and its value.
+#[cycle(reading)]
+fn pair(alloc: Global, cur: &mut Cursor<'_>, levels: usize) -> Result<(Term, Term), TermRefusal>
+    ensures read { Gives refusals.NoMemory (λ p. p) cur.new.rest result (pair_at (term_at (end_of cur.old) levels) cur.old.rest) }
+    ensures end { end_of cur.new ≡ end_of cur.old }
+{
+    let key = term(alloc, cur, levels)?;
+    let value = term(alloc, cur, levels)?;
+    Ok((key, value))
+}
+
+// Keys and values, as many as a count says.
+#[cycle(reading)]
+fn pairs(
+    alloc: Global,
+    cur: &mut Cursor<'_>,
+    levels: usize,
+    count: u64,
+) -> Result<TermPairList, TermRefusal>
+    ensures read { Gives refusals.NoMemory (λ ps. ps) cur.new.rest result (many_at (pair_at (term_at (end_of cur.old) levels)) count cur.old.rest) }
+    ensures end { end_of cur.new ≡ end_of cur.old }
+{
+    let mut pairs = TermPairList::new(alloc);
+    for _ in 0..count {
+        let p = pair(alloc, cur, levels)?;
+        pairs.push(p)?;
+    }
+    Ok(pairs)
+}
+
+// What is behind a tag of terms that have terms in them, `levels` more in one another.
+#[cycle(reading)]
+#[tactic(auto, unfolding(crate::specs::Reading::nested_at))]
+fn nested(alloc: Global, cur: &mut Cursor<'_>, levels: usize, tag: u8) -> Result<Term, TermRefusal>
+    ensures read { Gives refusals.NoMemory (λ t. t) cur.new.rest result (nested_at (end_of cur.old) levels (term_at (end_of cur.old) levels) tag cur.old.rest) }
+    ensures end { end_of cur.new ≡ end_of cur.old }
+{
+    match tag {
+        104 => {
+            let count = number(cur, 1)?;
+            Ok(Term::Tuple(terms(alloc, cur, levels, count)?))
+        }
+        105 => {
+            let count = number(cur, 4)?;
+            Ok(Term::Tuple(terms(alloc, cur, levels, count)?))
+        }
+        108 => {
+            let count = number(cur, 4)?;
+            let items = terms(alloc, cur, levels, count)?;
+            let tail = term(alloc, cur, levels)?;
+            Ok(Term::List(items, Boxed::new(alloc, tail)?))
+        }
+        113 => export(alloc, cur, levels),
+        _ => {
+            let count = number(cur, 4)?;
+            Ok(Term::Map(pairs(alloc, cur, levels, count)?))
+        }
+    }
+}
+
+// What is behind the tag at this offset.
+#[cycle(reading)]
+#[tactic(auto, unfolding(crate::specs::Reading::tagged_at))]
+fn tagged(
+    alloc: Global,
+    cur: &mut Cursor<'_>,
+    levels: usize,
+    at: usize,
+    tag: u8,
+) -> Result<Term, TermRefusal>
+    ensures read { Gives refusals.NoMemory (λ t. t) cur.new.rest result (tagged_at (end_of cur.old) levels (term_at (end_of cur.old) levels) at tag cur.old.rest) }
+    ensures end { end_of cur.new ≡ end_of cur.old }
+{
+    match tag {
+        97 | 98 | 110 | 111 => integer(alloc, cur, tag),
+        100 | 115 | 118 | 119 => Ok(Term::Atom(atom(alloc, cur, at, tag)?)),
+        106 | 107 | 109 | 77 => flat(alloc, cur, at, tag),
+        104 | 105 | 108 | 113 | 116 => nested(alloc, cur, levels, tag),
+        _ => Err(TermRefusal::Tag { tag, at }),
+    }
+}
+
+// A term, where `levels` terms may stand in one another, itself among them.
+#[cycle(reading)]
+fn term(alloc: Global, cur: &mut Cursor<'_>, levels: usize) -> Result<Term, TermRefusal>
+    ensures read { Gives refusals.NoMemory (λ t. t) cur.new.rest result (term_at (end_of cur.old) levels cur.old.rest) }
+    ensures end { end_of cur.new ≡ end_of cur.old }
+{
+    let at = cur.at();
+    let tag = cur.byte().ok_or(TermRefusal::Cut)?;
+    if levels == 0 {
+        return Err(TermRefusal::Depth { at });
+    }
+    tagged(alloc, cur, levels - 1, at, tag)
+}
