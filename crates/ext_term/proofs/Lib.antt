@@ -1,3 +1,5 @@
 pub mod Quoted
 pub mod Names
 pub mod Levels
+pub mod Agreeing
+pub mod Flat

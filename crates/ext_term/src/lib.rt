@@ -8,6 +8,7 @@ mod refusal;
 mod term;
 
 pub use name::name_text;
+pub use reading::read_term;
 pub use refusal::TermRefusal;
 pub use term::{Term, TermList, TermPairList};
 

@@ -187,3 +187,34 @@ fn term(alloc: Global, cur: &mut Cursor<'_>, levels: usize) -> Result<Term, Term
     }
     tagged(alloc, cur, levels - 1, at, tag)
 }
+
+#[tactic(auto, unfolding(crate::specs::Reading::file_at))]
+fn whole_term(alloc: Global, s: &[u8]) -> Result<Term, TermRefusal>
+    ensures { GivesAll refusals.NoMemory (λ t. t) result (term_of s.now) }
+{
+    let mut cur = Cursor::new(s);
+    let version = cur.byte().ok_or(TermRefusal::Cut)?;
+    if version != VERSION {
+        return Err(TermRefusal::Tag {
+            tag: version,
+            at: 0,
+        });
+    }
+    let t = term(alloc, &mut cur, DEPTH)?;
+    if !cur.is_empty() {
+        return Err(TermRefusal::Rest { at: cur.at() });
+    }
+    Ok(t)
+}
+
+/// Reads a term from all of the bytes: the version 131, and one term behind it (External Term Format).
+///
+/// Each tag that is known here is read, not only those that are written. Bytes that are no term are
+/// refused by what is wrong with them first from the left: bytes of a field are there before its value
+/// is looked at, and a tag that is too deep is refused before it is looked at. At most 256 terms may
+/// stand in one another. No room is taken by a count that the bytes state.
+pub fn read_term(alloc: Global, s: &[u8]) -> Result<Term, TermRefusal>
+    ensures exact { GivesAll refusals.NoMemory (λ t. t) result (term_of s.now) }
+{
+    whole_term(alloc, s)
+}
