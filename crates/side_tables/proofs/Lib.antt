@@ -1,0 +1,5 @@
+pub mod Items
+pub mod Places
+pub mod Tables
+pub mod Loop
+pub mod Numbered

@@ -1,0 +1,80 @@
+use super::*;
+use bk_base::{ByteList, NoMemory};
+use std::test::Fail;
+
+// Payloads, each with its text or its refusal.
+const TABLES: [(&[u8], &str); 15] = [
+    (
+        b"\0\0\0\0\0\0\0\0\0\0\0\x01\0\0\0\x01\0\0\0\x01\x12\x31\0\x01a",
+        "instructions 1\n1 1:3\nfile 1 a\n",
+    ),
+    (
+        b"\0\0\0\0\0\0\0\0\0\0\0\x01\0\0\0\x02\0\0\0\x01\x12\x31\x41\0\x01a",
+        "instructions 1\n1 1:3\n2 1:4\nfile 1 a\n",
+    ),
+    (
+        b"\0\0\0\0\0\0\0\0\0\0\0\0\0\0\0\0\0\0\0\0",
+        "instructions 0\n",
+    ),
+    // lines and file names, as many as a word states, none of which is there
+    (b"\0\0\0\0\0\0\0\0\0\0\0\0\xff\xff\xff\xff\0\0\0\0", "Cut"),
+    (b"\0\0\0\0\0\0\0\0\0\0\0\0\0\0\0\0\xff\xff\xff\xff", "Cut"),
+    (b"\0\0\0", "Cut"),
+    (b"\0\0\0\x01", "Version"),
+    // a u behind a switch to file 0, a negative integer, and a list
+    (
+        b"\0\0\0\0\0\0\0\0\0\0\0\0\0\0\0\x01\0\0\0\0\x02\x10",
+        "ItemTag { item: 1 }",
+    ),
+    (
+        b"\0\0\0\0\0\0\0\0\0\0\0\0\0\0\0\x01\0\0\0\0\x19\xff\xff",
+        "ItemTag { item: 0 }",
+    ),
+    (
+        b"\0\0\0\0\0\0\0\0\0\0\0\0\0\0\0\x01\0\0\0\0\x17\0",
+        "ItemTag { item: 0 }",
+    ),
+    (
+        b"\0\0\0\0\0\0\0\0\0\0\0\0\0\0\0\x01\0\0\0\0\x12",
+        "FileIndex { item: 0 }",
+    ),
+    (b"\0\0\0\0\0\0\0\0\0\0\0\0\0\0\0\x01\0\0\0\0\x09", "Cut"),
+    (b"\0\0\0\0\0\0\0\0\0\0\0\0\0\0\0\0\0\0\0\x01\0\x02a", "Cut"),
+    (b"\0\0\0\0\0\0\0\0\0\0\0\0\0\0\0\0\0\0\0\0\0", "Rest"),
+    // no line is left that the switch could stand before
+    (
+        b"\0\0\0\0\0\0\0\0\0\0\0\0\0\0\0\x01\0\0\0\0\x31\x02",
+        "Rest",
+    ),
+];
+
+#[test]
+fn tables_are_read_and_shown(rt: HostRuntime) -> Result<(), Fail> {
+    one_table();
+    for (payload, expected) in TABLES {
+        match read_lines(rt.alloc(), payload) {
+            Ok(lines) => {
+                let text = lines_text(rt.alloc(), &lines)?;
+                assert_eq!(rt; text.as_slice(), expected.as_bytes(), "{payload:?}");
+            }
+            Err(refusal) => {
+                let text = format!(in rt.alloc(); "{refusal:?}")?;
+                assert_eq!(rt; text.as_str(), expected, "{payload:?}");
+            }
+        }
+    }
+    Ok(())
+}
+
+#[test]
+fn rows_are_found_by_number(rt: HostRuntime) -> Result<(), Fail> {
+    let mut places = PlaceList::new(rt.alloc());
+    assert!(rt; places.is_empty() && places.get(0).is_none());
+    places.push((1, 3))?;
+    assert_eq!(rt; (places.len(), places.get(0)), (1, Some(&(1, 3))));
+    let mut names = BytesList::new(rt.alloc());
+    names.push(ByteList::from_slice(rt.alloc(), b"a")?)?;
+    assert_eq!(rt; names.as_slice()[0].as_slice(), b"a".as_slice());
+    assert!(rt; SideRefusal::from(NoMemory) == SideRefusal::NoMemory);
+    Ok(())
+}
