@@ -3,3 +3,5 @@ pub mod Names
 pub mod Levels
 pub mod Agreeing
 pub mod Flat
+pub mod Nested
+pub mod Terms

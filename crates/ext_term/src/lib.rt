@@ -1,12 +1,14 @@
 //! External terms: reading them, writing them, and their text.
 #![tactic(auto)]
 
+mod laws;
 mod name;
 mod parts;
 mod reading;
 mod refusal;
 mod term;
 
+pub use laws::one_term;
 pub use name::name_text;
 pub use reading::read_term;
 pub use refusal::TermRefusal;

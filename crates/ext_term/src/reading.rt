@@ -1,9 +1,9 @@
 //! Reading a term.
 
-ghost use Rattle.std.specs.Prelude.{◌≡◌, ◌-◌, ◌⊎◌, ◌<◌, IfOk, IfErr, Ok, Err};
-ghost use Rattle.bk_codec.specs.Reading.{Fails, Gives, GivesAll, many_at};
+ghost use Rattle.std.specs.Prelude.{◌≡◌, ◌⊎◌, IfOk, Ok, Err};
+ghost use Rattle.bk_codec.specs.Reading.{Gives, GivesAll, many_at};
 ghost use Rattle.ext_term.specs.Spelling.{SpellsFile};
-ghost use Rattle.ext_term.specs.Reading.{end_of, tag_at, name_at, arity_at, export_at, pair_at, nested_at, tagged_at, term_at, file_at, term_of};
+ghost use Rattle.ext_term.specs.Reading.{end_of, tag_at, name_at, arity_at, export_at, pair_at, nested_at, tagged_at, term_at, term_of};
 ghost use Rattle.ext_term.specs.declared.refusal.TermRefusal.TheVariants as refusals;
 
 use crate::parts::{atom, flat, integer, number};
@@ -214,6 +214,11 @@ fn whole_term(alloc: Global, s: &[u8]) -> Result<Term, TermRefusal>
 /// is looked at, and a tag that is too deep is refused before it is looked at. At most 256 terms may
 /// stand in one another. No room is taken by a count that the bytes state.
 pub fn read_term(alloc: Global, s: &[u8]) -> Result<Term, TermRefusal>
+    // What was read is spelled there.
+    ensures found { IfOk result (λ t. SpellsFile t s.now) }
+    // What is spelled there is read, unless memory runs out.
+    ensures only { (t : Term) → SpellsFile t s.now → (result ≡ Ok t) ⊎ (result ≡ Err refusals.NoMemory) }
+    // Which refusal it is.
     ensures exact { GivesAll refusals.NoMemory (λ t. t) result (term_of s.now) }
 {
     whole_term(alloc, s)
