@@ -1,3 +1,5 @@
+pub mod Commas
+pub mod Digits
 pub mod Quoted
 pub mod Names
 pub mod Levels

@@ -7,12 +7,14 @@ mod parts;
 mod reading;
 mod refusal;
 mod term;
+mod text;
 
 pub use laws::one_term;
 pub use name::name_text;
 pub use reading::read_term;
 pub use refusal::TermRefusal;
 pub use term::{Term, TermList, TermPairList};
+pub use text::term_text;
 
 #[cfg(test)]
 mod tests;
