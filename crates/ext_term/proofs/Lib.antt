@@ -7,3 +7,7 @@ pub mod Agreeing
 pub mod Flat
 pub mod Nested
 pub mod Terms
+pub mod Strings
+pub mod Written
+pub mod Spelled
+pub mod Magnitude

@@ -1,6 +1,6 @@
 -- The one spelling of a term that is written, and the terms that have one.
-use Rattle.std.specs.Prelude.{◌≡◌, ℕ, zero, suc, ◌-◌, ◌/◌, ◌%◌, ◌^◌, ◌<◌, ◌≤◌, ◌⊎◌, Bool, true, false, not, ◌&&◌, ◌==◌, nat_lt, nat_le, if◌then◌else◌, List, [], ◌∷◌, ◌++◌, length, map, Option, Some, None, option_map, All, IsUtf8}
-use Rattle.std.specs.List.{flat_map}
+use Rattle.std.specs.Prelude.{◌≡◌, ℕ, zero, suc, ◌-◌, ◌/◌, ◌%◌, ◌^◌, ◌<◌, ◌≤◌, ◌⊎◌, Bool, true, false, not, ◌&&◌, ◌==◌, nat_lt, nat_le, if◌then◌else◌, List, [], ◌∷◌, ◌++◌, length, map, Option, Some, None, is_some, All, IsUtf8}
+use Rattle.std.specs.List.{flat_map, list_all}
 use Rattle.byteorder.specs.Endian.{big_bytes}
 use Rattle.ext_term.specs.Spelling.{byte_term}
 use Rattle.ext_term.specs.declared.term.Term.{Term, fold-Term, out-Term}
@@ -19,7 +19,7 @@ written bytes = record { bytes = bytes; byte = None; is_nil = false }
 -- ---- integers
 
 -- the bytes of a number up to its highest that isn't 0, the lowest first; it has at most n of them
-abbrev pub significant : ℕ → ℕ → List ℕ
+unfoldable pub significant : ℕ → ℕ → List ℕ
 significant zero number = []
 significant (suc n) number = if number == 0 then [] else (number % 256) ∷ significant n (number / 256)
 
@@ -55,28 +55,39 @@ atom_bytes name =
 
 -- ---- lists
 
-abbrev pub and_then : Option ℕ → Option (List ℕ) → Option (List ℕ)
-and_then (Some b) (Some bytes) = Some (b ∷ bytes)
-and_then b bytes = None
+-- whether a list is written as bytes: 1 to 65,535 integers of one byte, and nothing behind them
+abbrev pub is_string : List Written → Written → Bool
+is_string items tail = tail.is_nil && nat_le 1 (length items) && nat_lt (length items) 65536 && list_all (λ item. is_some item.byte) items
 
--- the bytes of integers, where all of them are of one byte
-abbrev pub all_bytes : List Written → Option (List ℕ)
-all_bytes [] = Some []
-all_bytes (item ∷ items) = and_then item.byte (all_bytes items)
+-- the byte of an integer of one byte
+abbrev pub byte_list : Option ℕ → List ℕ
+byte_list (Some b) = b ∷ []
+byte_list None = []
 
--- the bytes of a list that is written as bytes: 1 to 65,535 integers of one byte, and nothing behind them
-abbrev pub string_of : List Written → Written → Option (List ℕ)
-string_of items tail = if tail.is_nil && nat_le 1 (length items) && nat_lt (length items) 65536 then all_bytes items else None
+abbrev pub string_bytes : List Written → List ℕ
+string_bytes items = 107 ∷ (big_bytes 2 (length items) ++ flat_map (λ item. byte_list item.byte) items)
 
-abbrev pub list_bytes : Option (List ℕ) → List Written → Written → List ℕ
-list_bytes (Some s) items tail = 107 ∷ (big_bytes 2 (length s) ++ s)
-list_bytes None items tail = 108 ∷ (big_bytes 4 (length items) ++ (flat_map (λ item. item.bytes) items ++ tail.bytes))
+abbrev pub list_bytes : List Written → Written → List ℕ
+list_bytes items tail =
+    if is_string items tail then string_bytes items
+    else 108 ∷ (big_bytes 4 (length items) ++ (flat_map (λ item. item.bytes) items ++ tail.bytes))
 
 -- ---- terms
 
+abbrev pub tuple_head : ℕ → List ℕ
+tuple_head n = if nat_lt n 256 then 104 ∷ n ∷ [] else 105 ∷ big_bytes 4 n
+
 abbrev pub tuple_bytes : List Written → List ℕ
-tuple_bytes items =
-    (if nat_lt (length items) 256 then 104 ∷ length items ∷ [] else 105 ∷ big_bytes 4 (length items)) ++ flat_map (λ item. item.bytes) items
+tuple_bytes items = tuple_head (length items) ++ flat_map (λ item. item.bytes) items
+
+abbrev pub binary_bytes : List ℕ → List ℕ
+binary_bytes s = 109 ∷ (big_bytes 4 (length s) ++ s)
+
+abbrev pub bits_bytes : List ℕ → ℕ → List ℕ
+bits_bytes s last = 77 ∷ (big_bytes 4 (length s) ++ (last ∷ s))
+
+abbrev pub export_bytes : List ℕ → List ℕ → ℕ → List ℕ
+export_bytes m f arity = 113 ∷ (atom_bytes m ++ (atom_bytes f ++ (97 ∷ arity ∷ [])))
 
 abbrev pub map_bytes : List (Written × Written) → List ℕ
 map_bytes pairs = 116 ∷ (big_bytes 4 (length pairs) ++ flat_map (λ pair. pair.0.bytes ++ pair.1.bytes) pairs)
@@ -87,11 +98,11 @@ written_by (Term-F.Wide neg mag) = written (big_bytes_of neg mag)
 written_by (Term-F.Atom name) = written (atom_bytes name)
 written_by (Term-F.Tuple items) = written (tuple_bytes items)
 written_by Term-F.Nil = record { bytes = 106 ∷ []; byte = None; is_nil = true }
-written_by (Term-F.List items tail) = written (list_bytes (string_of items tail) items tail)
-written_by (Term-F.Binary s) = written (109 ∷ (big_bytes 4 (length s) ++ s))
-written_by (Term-F.Bits s last) = written (77 ∷ (big_bytes 4 (length s) ++ (last ∷ s)))
+written_by (Term-F.List items tail) = written (list_bytes items tail)
+written_by (Term-F.Binary s) = written (binary_bytes s)
+written_by (Term-F.Bits s last) = written (bits_bytes s last)
 written_by (Term-F.Map pairs) = written (map_bytes pairs)
-written_by (Term-F.Export m f arity) = written (113 ∷ (atom_bytes m ++ (atom_bytes f ++ (97 ∷ arity ∷ []))))
+written_by (Term-F.Export m f arity) = written (export_bytes m f arity)
 
 unfoldable pub term_written : Term → Written
 term_written t = fold-Term Written written_by t
@@ -99,6 +110,10 @@ term_written t = fold-Term Written written_by t
 -- the spelling of a term, without the version
 unfoldable pub spelling : Term → List ℕ
 spelling t = (term_written t).bytes
+
+-- the spellings of a key and of its value
+abbrev pub pair_bytes : Term × Term → List ℕ
+pair_bytes pair = spelling pair.0 ++ spelling pair.1
 
 -- the spelling of a term as a file
 abbrev pub file_spelling : Term → List ℕ
@@ -133,3 +148,8 @@ FitsBy levels Fits (Term-F.Export m f arity) = FitsName m × FitsName f × (arit
 unfoldable pub IsWritable : ℕ → Term → Type 0
 IsWritable zero t = ⊥
 IsWritable (suc levels) t = FitsBy levels (IsWritable levels) (out-Term t)
+
+-- the same, however many terms stand in one another
+pub record CanBeWritten (t : Term) : Type 0 where
+  pub levels : ℕ
+  pub is : IsWritable levels t

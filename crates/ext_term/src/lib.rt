@@ -9,12 +9,15 @@ mod refusal;
 mod term;
 mod text;
 
-pub use laws::one_term;
+mod writing;
+
+pub use laws::{canonical, one_term};
 pub use name::name_text;
 pub use reading::read_term;
 pub use refusal::TermRefusal;
 pub use term::{Term, TermList, TermPairList};
 pub use text::term_text;
+pub use writing::write_term;
 
 #[cfg(test)]
 mod tests;

@@ -1,0 +1,115 @@
+-- Which terms are written as a byte, and which lists as bytes.
+use Rattle.std.proofs.Common.{◌≡◌, ℕ, zero, suc, ◌+◌, ◌^◌, ◌<◌, ◌≤◌, ltb, Bool, true, false, not, ◌&&◌, List, [], ◌∷◌, ◌++◌, length, map, Option, Some, None, is_some, refl, sym, ap, subst, ◌∙◌, arith, inl, inr}
+use Rattle.std.specs.List.{flat_map, list_all}
+use Rattle.std.proofs.lemmas.Bool.{cases_Bool, cases_lt, false≢true, ltb-true, ltb-false, lt-ltb, le-ltb, le-leb}
+use Rattle.ext_term.specs.Spelling.{byte_term}
+use Rattle.ext_term.specs.declared.term.Term.{Term, out-Term, roll-Term, roll-out-Term, map-Term, fold-Term, fold-roll-Term}
+use Rattle.ext_term.specs.declared.term.Term.TheOpen.{Term-F}
+use Rattle.ext_term.specs.declared.term.Term.TheVariants as terms
+use Rattle.ext_term.specs.Writing.{Written, written, written_by, term_written, integer_written, has_32_bits, byte_list, is_string}
+use Rattle.ext_term.proofs.Written.{int_written}
+
+layer_written : (f : Term-F Term) → term_written (roll-Term f) ≡ written_by (map-Term Term Written term_written f)
+unfolding term_written
+layer_written f = fold-roll-Term Written written_by f
+
+-- ---- the empty list
+
+integer_is : (neg : Bool) (mag : ℕ) → (integer_written neg mag).is_nil ≡ false
+unfolding integer_written
+integer_is neg mag =
+    elim (cases_Bool (not neg && ltb mag 256)) [
+      | inl small ↦ rw small refl
+      | inr large ↦ elim (cases_Bool (has_32_bits neg mag)) [
+        | inl word ↦ rw (large, word) refl
+        | inr big ↦ rw (large, big) refl
+      ]
+    ]
+
+nil_layer : (f : Term-F Term) → (written_by (map-Term Term Written term_written f)).is_nil ≡ true → roll-Term f ≡ terms.Nil
+nil_layer (Term-F.Int neg mag) is = absurd (false≢true (sym (integer_is neg mag) ∙ is))
+nil_layer (Term-F.Wide neg mag) is = absurd (false≢true is)
+nil_layer (Term-F.Atom name) is = absurd (false≢true is)
+nil_layer (Term-F.Tuple items) is = absurd (false≢true is)
+nil_layer Term-F.Nil is = terms.rolls-Nil
+nil_layer (Term-F.List items tail) is = absurd (false≢true is)
+nil_layer (Term-F.Binary s) is = absurd (false≢true is)
+nil_layer (Term-F.Bits s last) is = absurd (false≢true is)
+nil_layer (Term-F.Map pairs) is = absurd (false≢true is)
+nil_layer (Term-F.Export m f arity) is = absurd (false≢true is)
+
+pub nil_is : (t : Term) → (term_written t).is_nil ≡ true → t ≡ terms.Nil
+nil_is t is =
+    let f = out-Term t in
+    let same : roll-Term f ≡ t = roll-out-Term t in
+    sym same ∙ nil_layer f (ap (λ (w : Written). w.is_nil) (sym (layer_written f)) ∙ ap (λ (u : Term). (term_written u).is_nil) same ∙ is)
+
+-- ---- integers of one byte
+
+pub record ByteTerm (t : Term) : Type 0 where
+  pub byte : ℕ
+  pub below : byte < 256
+  pub is : t ≡ byte_term byte
+
+pub small_parts : (neg : Bool) (mag : ℕ) → (not neg && ltb mag 256) ≡ true → (neg ≡ false) × (mag < 256)
+small_parts true mag small = absurd (false≢true small)
+small_parts false mag small = (refl, ltb-true mag 256 small)
+
+integer_byte : (neg : Bool) (mag : ℕ) → is_some (integer_written neg mag).byte ≡ true → (neg ≡ false) × (mag < 256)
+unfolding integer_written
+integer_byte neg mag is =
+    elim (cases_Bool (not neg && ltb mag 256)) [
+      | inl small ↦ small_parts neg mag small
+      | inr large ↦ elim (cases_Bool (has_32_bits neg mag)) [
+        | inl word ↦ absurd (false≢true (rw (large, word) at is))
+        | inr big ↦ absurd (false≢true (rw (large, big) at is))
+      ]
+    ]
+
+byte_layer : (f : Term-F Term) → is_some (written_by (map-Term Term Written term_written f)).byte ≡ true → ByteTerm (roll-Term f)
+byte_layer (Term-F.Int neg mag) is =
+    let p = integer_byte neg mag is in
+    record { byte = mag; below = p.1; is = terms.rolls-Int neg mag ∙ ap (λ (n : Bool). terms.Int n mag) p.0 }
+byte_layer (Term-F.Wide neg mag) is = absurd (false≢true is)
+byte_layer (Term-F.Atom name) is = absurd (false≢true is)
+byte_layer (Term-F.Tuple items) is = absurd (false≢true is)
+byte_layer Term-F.Nil is = absurd (false≢true is)
+byte_layer (Term-F.List items tail) is = absurd (false≢true is)
+byte_layer (Term-F.Binary s) is = absurd (false≢true is)
+byte_layer (Term-F.Bits s last) is = absurd (false≢true is)
+byte_layer (Term-F.Map pairs) is = absurd (false≢true is)
+byte_layer (Term-F.Export m f arity) is = absurd (false≢true is)
+
+byte_is : (t : Term) → is_some (term_written t).byte ≡ true → ByteTerm t
+byte_is t is =
+    let f = out-Term t in
+    let same : roll-Term f ≡ t = roll-out-Term t in
+    subst ByteTerm same (byte_layer f (ap (λ (w : Written). is_some w.byte) (sym (layer_written f)) ∙ ap (λ (u : Term). is_some (term_written u).byte) same ∙ is))
+
+byte_of_term : (b : ℕ) → b < 256 → byte_list (term_written (byte_term b)).byte ≡ b ∷ []
+unfolding integer_written
+byte_of_term b below = ap (λ (w : Written). byte_list w.byte) (int_written false b) ∙ rw (lt-ltb b 256 below) refl
+
+-- ---- lists of them
+
+pub record ByteTerms (items : List Term) : Type 0 where
+  pub bytes : List ℕ
+  pub are : items ≡ map byte_term bytes
+  pub written : flat_map (λ t. byte_list (term_written t).byte) items ≡ bytes
+
+pub both_true : (a b : Bool) → (a && b) ≡ true → (a ≡ true) × (b ≡ true)
+both_true true b is = (refl, is)
+both_true false b is = absurd (false≢true is)
+
+pub bytes_are : (items : List Term) → list_all (λ t. is_some (term_written t).byte) items ≡ true → ByteTerms items
+bytes_are [] all = record { bytes = []; are = refl; written = refl }
+bytes_are (t ∷ items) all =
+    let p = both_true (is_some (term_written t).byte) (list_all (λ u. is_some (term_written u).byte) items) all in
+    let first = byte_is t p.0 in
+    let others = bytes_are items p.1 in
+    let one : byte_list (term_written t).byte ≡ first.byte ∷ [] = ap (λ (u : Term). byte_list (term_written u).byte) first.is ∙ byte_of_term first.byte first.below in
+    record {
+      bytes = first.byte ∷ others.bytes;
+      are = ap (λ (u : Term). u ∷ items) first.is ∙ ap (λ (us : List Term). byte_term first.byte ∷ us) others.are;
+      written = ap (λ (s : List ℕ). s ++ flat_map (λ u. byte_list (term_written u).byte) items) one ∙ ap (λ (s : List ℕ). first.byte ∷ s) others.written;
+    }
