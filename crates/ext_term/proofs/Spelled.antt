@@ -8,7 +8,7 @@ use Rattle.std.proofs.lemmas.List.Folds.{list_all-map}
 use Rattle.byteorder.specs.Endian.{big_bytes, twos_complement, little_number}
 use Rattle.bk_codec.specs.Spelling.{Then, SpellsMany, SpellsNumber}
 use Rattle.ext_term.specs.Integer.{int_of, is_minus, short_big, big_of}
-use Rattle.ext_term.specs.Spelling.{SpellsBig, SpellsCounted, SpellsAtom, SpellsPair, SpellsTagged, SpellsTerm, byte_term}
+use Rattle.ext_term.specs.Spelling.{SpellsBig, SpellsCountedIn, SpellsAtom, SpellsPair, SpellsTagged, SpellsTerm, byte_term}
 use Rattle.ext_term.specs.declared.term.Term.{Term, out-Term, roll-Term, roll-out-Term}
 use Rattle.ext_term.specs.declared.term.Term.TheOpen.{Term-F}
 use Rattle.ext_term.specs.declared.term.Term.TheVariants as terms

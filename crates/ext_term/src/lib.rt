@@ -8,7 +8,6 @@ mod reading;
 mod refusal;
 mod term;
 mod text;
-
 mod writing;
 
 pub use laws::{canonical, one_term};
@@ -16,7 +15,7 @@ pub use name::name_text;
 pub use reading::read_term;
 pub use refusal::TermRefusal;
 pub use term::{Term, TermList, TermPairList};
-pub use text::term_text;
+pub use text::{put_term, term_text};
 pub use writing::write_term;
 
 #[cfg(test)]

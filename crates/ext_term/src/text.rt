@@ -25,14 +25,16 @@ pub fn term_text(alloc: Global, t: &Term) -> Result<Bytes, NoMemory>
     ensures { IfOk result (λ out. out.items ≡ term_text t.now) }
 {
     let mut out = Bytes::new(alloc);
-    put_term(&mut out, t)?;
+    put_term(t, &mut out)?;
     Ok(out)
 }
 
-// Puts the text of a term at the end.
+/// Appends the text of a term to `out`, as [`term_text`] has it.
+///
+/// Where memory is wanting, a front of the text may have been appended.
 #[cycle(text)]
 #[tactic(auto, unfolding(crate::specs::Text::term_text, crate::specs::Text::term_shown))]
-fn put_term(out: &mut Bytes, t: &Term) -> Result<(), NoMemory>
+pub fn put_term(t: &Term, out: &mut Bytes) -> Result<(), NoMemory>
     ensures { OnOk result (out.new.items ≡ out.old.items ++ term_text t.now) }
 {
     match t {
@@ -78,7 +80,7 @@ fn put_items(out: &mut Bytes, items: &[Term]) -> Result<(), NoMemory>
 {
     for (i, t) in items.iter().enumerate() {
         put_comma(out, i)?;
-        put_term(out, t)?;
+        put_term(t, out)?;
     }
     Ok(())
 }
@@ -93,7 +95,7 @@ fn put_tail(out: &mut Bytes, tail: &Term) -> Result<(), NoMemory>
         return Ok(());
     }
     out.push(b'|')?;
-    put_term(out, tail)
+    put_term(tail, out)
 }
 
 // Puts the texts of keys and their values at the end, with commas between them.
@@ -103,9 +105,9 @@ fn put_pairs(out: &mut Bytes, pairs: &[(Term, Term)]) -> Result<(), NoMemory>
 {
     for (i, pair) in pairs.iter().enumerate() {
         put_comma(out, i)?;
-        put_term(out, &pair.0)?;
+        put_term(&pair.0, out)?;
         out.extend(b"=>")?;
-        put_term(out, &pair.1)?;
+        put_term(&pair.1, out)?;
     }
     Ok(())
 }
