@@ -8,8 +8,12 @@ use Rattle.code_chunk.specs.declared.refusal.CodeRefusal.{CodeRefusal}
 use Rattle.code_chunk.specs.declared.refusal.CodeRefusal.TheVariants as code_refusals
 use Rattle.index_tables.specs.declared.refusal.TableRefusal.{TableRefusal}
 use Rattle.index_tables.specs.declared.refusal.TableRefusal.TheVariants.{Cut, AtomUtf8, AtomIndex, Rest, NoMemory as TableMemory}
+use Rattle.side_tables.specs.declared.refusal.SideRefusal.{SideRefusal}
+use Rattle.side_tables.specs.declared.refusal.SideRefusal.TheVariants as side_refusals
+use Rattle.ext_term.specs.declared.refusal.TermRefusal.{TermRefusal}
+use Rattle.ext_term.specs.declared.refusal.TermRefusal.TheVariants as term_refusals
 use Rattle.beam_cli.specs.declared.refusal.Refusal.{Refusal}
-use Rattle.beam_cli.specs.declared.refusal.Refusal.TheVariants.{Form, Missing, Table, Code, NoMemory}
+use Rattle.beam_cli.specs.declared.refusal.Refusal.TheVariants.{Form, Missing, Table, Side, Term, Code, NoMemory}
 use Rattle.iff_form.specs.Text.{id_text}
 
 -- a message of this text
@@ -52,6 +56,25 @@ table_refusal_text (AtomUtf8 n) = codes "atom " ++ (decimal n ++ codes " is not 
 table_refusal_text (AtomIndex entry) = codes "atom number in entry " ++ decimal entry
 table_refusal_text TableMemory = codes "out of memory"
 
+-- why a payload is no table of literals or lines
+abbrev pub side_refusal_text : SideRefusal → List ℕ
+side_refusal_text side_refusals.Version = codes "version"
+side_refusal_text (side_refusals.ItemTag item) = codes "item " ++ decimal item
+side_refusal_text (side_refusals.FileIndex item) = codes "file in item " ++ decimal item
+side_refusal_text side_refusals.Cut = codes "cut"
+side_refusal_text side_refusals.Rest = codes "rest"
+side_refusal_text side_refusals.NoMemory = codes "out of memory"
+
+-- why a payload is no term
+abbrev pub term_refusal_text : TermRefusal → List ℕ
+term_refusal_text term_refusals.Cut = codes "cut"
+term_refusal_text (term_refusals.Tag tag at) = codes "tag " ++ (decimal tag ++ (codes " at " ++ decimal at))
+term_refusal_text (term_refusals.Depth at) = codes "depth at " ++ decimal at
+term_refusal_text (term_refusals.AtomText at) = codes "atom text at " ++ decimal at
+term_refusal_text (term_refusals.BitTail at) = codes "bit tail at " ++ decimal at
+term_refusal_text (term_refusals.Rest at) = codes "rest at " ++ decimal at
+term_refusal_text term_refusals.NoMemory = codes "out of memory"
+
 -- why bytes are no operand
 abbrev pub operand_refusal_text : OperandRefusal → List ℕ
 operand_refusal_text operand_refusals.Cut = codes "cut"
@@ -74,5 +97,7 @@ abbrev pub refusal_text : Refusal → List ℕ
 refusal_text (Form e) = form_refusal_text e
 refusal_text (Missing id) = codes "no chunk " ++ id_text id
 refusal_text (Table id e) = id_text id ++ (codes ": " ++ table_refusal_text e)
+refusal_text (Side id e) = id_text id ++ (codes ": " ++ side_refusal_text e)
+refusal_text (Term id e) = id_text id ++ (codes ": " ++ term_refusal_text e)
 refusal_text (Code e) = codes "Code: " ++ code_refusal_text e
 refusal_text NoMemory = codes "out of memory"

@@ -9,9 +9,8 @@ use Rattle.beam_module.specs.declared.refusal.ModuleRefusal.{ModuleRefusal}
 use Rattle.beam_module.specs.declared.refusal.ModuleRefusal.TheVariants as modules
 use Rattle.beam_module.specs.File.{FileChunk}
 use Rattle.beam_module.specs.Reading.{file_of}
-use Rattle.index_tables.specs.declared.refusal.TableRefusal.{TableRefusal}
 use Rattle.beam_cli.specs.declared.refusal.Refusal.{Refusal}
-use Rattle.beam_cli.specs.declared.refusal.Refusal.TheVariants.{Form, Missing, Table, Code, NoMemory}
+use Rattle.beam_cli.specs.declared.refusal.Refusal.TheVariants.{Form, Missing, Code, NoMemory}
 
 -- what was read, or the refusal as one of the file
 abbrev pub refused_as : {A E : Type 0} → (E → Refusal) → Result A E → Result A Refusal
@@ -30,9 +29,9 @@ found_or id None = Err (Missing id)
 abbrev pub payload_at : Id → List PlainChunk → Result (List ℕ) Refusal
 payload_at id chunks = found_or id (payload_of id chunks)
 
--- the table in a chunk that has to be there
-abbrev pub table_at : {A : Type 0} → (List ℕ → Result A TableRefusal) → Id → List PlainChunk → Result A Refusal
-table_at read id chunks = payload_at id chunks >>= λ payload. refused_as (Table id) (read payload)
+-- what the payload of a chunk is, which has to be there
+abbrev pub part_at : {A E : Type 0} → (E → Refusal) → (List ℕ → Result A E) → Id → List PlainChunk → Result A Refusal
+part_at why read id chunks = payload_at id chunks >>= λ payload. refused_as why (read payload)
 
 -- a refusal of the value of a file as one of the file
 abbrev pub file_refusal : ModuleRefusal → Refusal

@@ -1,7 +1,7 @@
 -- The command grammar: which words ask for something, and for what.
 use Rattle.std.specs.Prelude.{ℕ, Bool, false, not, ◌==◌, ◌&&◌, ◌||◌, List, [], ◌∷◌, length, codes, bytes_eq, Option, Some, None, if◌then◌else◌}
 use Rattle.beam_cli.specs.declared.shown.Shown.{Shown}
-use Rattle.beam_cli.specs.declared.shown.Shown.TheVariants.{Atoms, Imports, Exports, Locals, Funs}
+use Rattle.beam_cli.specs.declared.shown.Shown.TheVariants.{Atoms, Imports, Exports, Locals, Funs, Literals, Lines, Attributes, Compile}
 
 -- what a command asks for, of the files with these names
 pub data Asked : Type 0 where
@@ -14,15 +14,24 @@ abbrev pub is_name : List ℕ → Bool
 is_name [] = false
 is_name (c ∷ rest) = not (c == 45) || length rest == 0
 
--- the table that a word names
-abbrev pub shown_by : List ℕ → Option Shown
-shown_by word =
+-- the table of names that a word names
+abbrev pub names_by : List ℕ → Option Shown
+names_by word =
     if bytes_eq word (codes "atoms") then Some Atoms
     else if bytes_eq word (codes "imports") then Some Imports
     else if bytes_eq word (codes "exports") then Some Exports
     else if bytes_eq word (codes "locals") then Some Locals
     else if bytes_eq word (codes "funs") then Some Funs
     else None
+
+-- the table that a word names
+abbrev pub shown_by : List ℕ → Option Shown
+shown_by word =
+    if bytes_eq word (codes "literals") then Some Literals
+    else if bytes_eq word (codes "lines") then Some Lines
+    else if bytes_eq word (codes "attributes") then Some Attributes
+    else if bytes_eq word (codes "compile") then Some Compile
+    else names_by word
 
 abbrev pub show_asked : Option Shown → List ℕ → Option Asked
 show_asked None name = None

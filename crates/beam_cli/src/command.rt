@@ -1,7 +1,7 @@
 //! The words of the command line.
 
 ghost use Rattle.std.specs.Prelude.{◌≡◌, [], ◌∷◌, option_map};
-ghost use Rattle.beam_cli.specs.Words.{asked_by, is_name, shown_by};
+ghost use Rattle.beam_cli.specs.Words.{asked_by, is_name, names_by, shown_by};
 ghost use Rattle.beam_cli.specs.Asking.{asked};
 
 use crate::shown::Shown;
@@ -42,11 +42,10 @@ fn names_file(word: &Text) -> bool
     }
 }
 
-// The table that a word names.
-fn shown_by(word: &Text) -> Option<Shown>
-    ensures { result ≡ shown_by word.now }
+// The table of names that a word names.
+fn names_by(word: &[u8]) -> Option<Shown>
+    ensures { result ≡ names_by word.now }
 {
-    let word = word.as_bytes();
     if word == b"atoms".as_slice() {
         Some(Shown::Atoms)
     } else if word == b"imports".as_slice() {
@@ -59,6 +58,24 @@ fn shown_by(word: &Text) -> Option<Shown>
         Some(Shown::Funs)
     } else {
         None
+    }
+}
+
+// The table that a word names.
+fn shown_by(word: &Text) -> Option<Shown>
+    ensures { result ≡ shown_by word.now }
+{
+    let word = word.as_bytes();
+    if word == b"literals".as_slice() {
+        Some(Shown::Literals)
+    } else if word == b"lines".as_slice() {
+        Some(Shown::Lines)
+    } else if word == b"attributes".as_slice() {
+        Some(Shown::Attributes)
+    } else if word == b"compile".as_slice() {
+        Some(Shown::Compile)
+    } else {
+        names_by(word)
     }
 }
 

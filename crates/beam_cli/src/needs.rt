@@ -1,10 +1,9 @@
 //! What commands need of a file.
 
-ghost use Rattle.std.specs.Prelude.{◌≡◌, codes};
+ghost use Rattle.std.specs.Prelude.{◌≡◌};
 ghost use Rattle.bk_codec.specs.Reading.{GivesAll};
-ghost use Rattle.index_tables.specs.Reading.{all_atoms};
-ghost use Rattle.beam_cli.specs.Needs.{chunks_of, payload_at, table_at, value_of_file};
-ghost use Rattle.beam_cli.specs.Showing.{id_of};
+ghost use Rattle.beam_cli.specs.Needs.{chunks_of, payload_at, value_of_file};
+ghost use Rattle.beam_cli.specs.Showing.{atoms_at};
 
 use crate::refusal::Refusal;
 use beam_module::{FileVal, ModuleRefusal, read_file};
@@ -32,7 +31,7 @@ pub fn payload_of<'a>(form: &Form<'a>, id: Id) -> Result<&'a [u8], Refusal>
 
 /// The atoms of the module.
 pub fn atoms_of(alloc: Global, form: &Form<'_>) -> Result<Atoms, Refusal>
-    ensures { GivesAll Refusal.NoMemory (λ names. names) result (table_at all_atoms (id_of (codes "AtU8")) form.now) }
+    ensures { GivesAll Refusal.NoMemory (λ names. names) result (atoms_at form.now) }
 {
     let id = Id(*b"AtU8");
     let payload = payload_of(form, id)?;

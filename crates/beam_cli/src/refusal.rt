@@ -5,8 +5,10 @@ ghost use Rattle.beam_cli.specs.declared.refusal.Refusal.TheVariants as refusals
 
 use bk_base::NoMemory;
 use code_chunk::CodeRefusal;
+use ext_term::TermRefusal;
 use iff_form::{FormRefusal, Id};
 use index_tables::TableRefusal;
+use side_tables::SideRefusal;
 
 /// Why a file is not in the grammar that a command needs, or that memory ran out. A refusal that is
 /// carried here is never one for want of memory.
@@ -18,6 +20,10 @@ pub enum Refusal {
     Missing(Id),
     /// The payload of the chunk with this id is not its table.
     Table(Id, TableRefusal),
+    /// The payload of the chunk with this id is not its literals or lines.
+    Side(Id, SideRefusal),
+    /// The payload of the chunk with this id is no term.
+    Term(Id, TermRefusal),
     /// The payload of the chunk `Code` is no code.
     Code(CodeRefusal),
     /// Memory ran out.

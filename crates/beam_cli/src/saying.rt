@@ -1,7 +1,7 @@
 //! The messages, which take no memory.
 
 ghost use Rattle.std.specs.Prelude.{◌≡◌, ◌++◌, List, ℕ, codes, decimal};
-ghost use Rattle.beam_cli.specs.Message.{line, line_about, code_refusal_text, form_refusal_text, operand_refusal_text, refusal_text, table_refusal_text, usage_line, write_fault_line};
+ghost use Rattle.beam_cli.specs.Message.{line, line_about, code_refusal_text, form_refusal_text, operand_refusal_text, refusal_text, side_refusal_text, table_refusal_text, term_refusal_text, usage_line, write_fault_line};
 ghost use Rattle.iff_form.specs.Text.{id_text};
 ghost use Rattle.beam_cli.specs.Outcome.{IsSaid};
 ghost use Rattle.beam_cli.specs.Stopping.{message_of};
@@ -12,9 +12,11 @@ use bk_base::Text;
 use bk_port::{Sink, emit_all};
 use code_chunk::CodeRefusal;
 use compact_term::OperandRefusal;
+use ext_term::TermRefusal;
 use iff_form::{FormRefusal, Id, IdText};
 use index_tables::TableRefusal;
 use itoa::Buffer;
+use side_tables::SideRefusal;
 
 // Writes a message of this text. A fault of the sink cuts it short and is passed over.
 fn say<E: Sink>(err: &mut E, text: &[u8])
@@ -93,6 +95,76 @@ fn say_table<E: Sink>(err: &mut E, name: &Text, id: Id, refusal: TableRefusal)
     }
 }
 
+// Writes why the payload of a chunk is not its literals or lines.
+fn say_side<E: Sink>(err: &mut E, name: &Text, id: Id, refusal: SideRefusal)
+    ensures { IsSaid (E.written err.old) (E.written err.new) (E.faults err.old) (E.faults err.new)
+        (line_about name.now (id_text id ++ (codes ": " ++ side_refusal_text refusal))) }
+{
+    let mut number = Buffer::new();
+    let id = IdText::new(id);
+    let id = id.as_bytes();
+    match refusal {
+        SideRefusal::Version => say_about(err, name, id, b": ", b"", b"version"),
+        SideRefusal::ItemTag { item } => {
+            let item = number.format(item).as_bytes();
+            say_about(err, name, id, b": item ", b"", item)
+        }
+        SideRefusal::FileIndex { item } => {
+            let item = number.format(item).as_bytes();
+            say_about(err, name, id, b": file in item ", b"", item)
+        }
+        SideRefusal::Cut => say_about(err, name, id, b": ", b"", b"cut"),
+        SideRefusal::Rest => say_about(err, name, id, b": ", b"", b"rest"),
+        SideRefusal::NoMemory => say_about(err, name, id, b": ", b"", b"out of memory"),
+    }
+}
+
+// Writes that the payload of a chunk is no term, for a reason at this offset.
+fn say_at<E: Sink>(err: &mut E, name: &Text, id: Id, reason: &[u8], at: usize)
+    ensures { IsSaid (E.written err.old) (E.written err.new) (E.faults err.old) (E.faults err.new)
+        (line_about name.now (id_text id ++ (reason.now ++ decimal at))) }
+{
+    let mut number = Buffer::new();
+    let id = IdText::new(id);
+    let at = number.format(at).as_bytes();
+    say_about(err, name, id.as_bytes(), reason, b"", at)
+}
+
+// Writes that the payload of a chunk has a wrong tag at this offset.
+fn say_tag<E: Sink>(err: &mut E, name: &Text, id: Id, tag: u8, at: usize)
+    ensures { IsSaid (E.written err.old) (E.written err.new) (E.faults err.old) (E.faults err.new)
+        (line_about name.now (id_text id ++ (codes ": tag " ++ (decimal tag ++ (codes " at " ++ decimal at))))) }
+{
+    let mut first = Buffer::new();
+    let mut second = Buffer::new();
+    let id = IdText::new(id);
+    let tag = first.format(tag).as_bytes();
+    let at = second.format(at).as_bytes();
+    let name = name.as_bytes();
+    let _ = emit_all(
+        err,
+        &[b"beamkit: ", name, b": ", id.as_bytes(), b": tag ", tag, b" at ", at, b"\n"],
+    );
+}
+
+// Writes why the payload of a chunk is no term.
+fn say_term<E: Sink>(err: &mut E, name: &Text, id: Id, refusal: TermRefusal)
+    ensures { IsSaid (E.written err.old) (E.written err.new) (E.faults err.old) (E.faults err.new)
+        (line_about name.now (id_text id ++ (codes ": " ++ term_refusal_text refusal))) }
+{
+    match refusal {
+        TermRefusal::Cut => say_about(err, name, IdText::new(id).as_bytes(), b": cut", b"", b""),
+        TermRefusal::Tag { tag, at } => say_tag(err, name, id, tag, at),
+        TermRefusal::Depth { at } => say_at(err, name, id, b": depth at ", at),
+        TermRefusal::AtomText { at } => say_at(err, name, id, b": atom text at ", at),
+        TermRefusal::BitTail { at } => say_at(err, name, id, b": bit tail at ", at),
+        TermRefusal::Rest { at } => say_at(err, name, id, b": rest at ", at),
+        TermRefusal::NoMemory => {
+            say_about(err, name, IdText::new(id).as_bytes(), b": out of memory", b"", b"")
+        }
+    }
+}
+
 // Writes why the operand at this offset of the code is none.
 fn say_operand<E: Sink>(err: &mut E, name: &Text, at: usize, why: OperandRefusal)
     ensures { IsSaid (E.written err.old) (E.written err.new) (E.faults err.old) (E.faults err.new)
@@ -153,6 +225,8 @@ fn say_refusal<E: Sink>(err: &mut E, name: &Text, refusal: Refusal)
             say_about(err, name, b"no chunk ", b"", b"", id.as_bytes())
         }
         Refusal::Table(id, refusal) => say_table(err, name, id, refusal),
+        Refusal::Side(id, refusal) => say_side(err, name, id, refusal),
+        Refusal::Term(id, refusal) => say_term(err, name, id, refusal),
         Refusal::Code(refusal) => say_code(err, name, refusal),
         Refusal::NoMemory => say_about(err, name, b"out of memory", b"", b"", b""),
     }

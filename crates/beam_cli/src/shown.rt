@@ -13,4 +13,12 @@ pub enum Shown {
     Locals,
     /// The funs, of the chunk `FunT`.
     Funs,
+    /// The literals, of the chunk `LitT`.
+    Literals,
+    /// The lines of the source, of the chunk `Line`.
+    Lines,
+    /// The attributes, of the chunk `Attr`.
+    Attributes,
+    /// How the module was compiled, of the chunk `CInf`.
+    Compile,
 }

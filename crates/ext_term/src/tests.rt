@@ -103,3 +103,92 @@ fn terms_are_shown(rt: HostRuntime) -> Result<(), Fail> {
     }
     Ok(())
 }
+
+// The text of the term that the bytes are, or their refusal.
+fn told(alloc: Global, bytes: &[u8]) -> Result<String, Fail> {
+    let mut text = String::new(alloc);
+    match read_term(alloc, bytes) {
+        Ok(t) => text.push_str(std::str::from_utf8(term_text(alloc, &t)?.as_slice())?)?,
+        Err(refusal) => write!(text, "{refusal:?}")?,
+    }
+    Ok(text)
+}
+
+#[test]
+fn terms_are_read_or_refused(rt: HostRuntime) -> Result<(), Fail> {
+    let alloc = rt.alloc();
+    for (bytes, text) in [
+        (b"\x83a\x05".as_slice(), "5"),
+        (b"\x83k\0\x02hi", "[104,105]"),
+        (b"\x83l\0\0\0\x01a\x01a\x02", "[1|2]"),
+        (b"\x83M\0\0\0\x01\x03\xa0", "<<a0/3>>"),
+        (b"\x83b\xff\xff\xff\xff", "-1"),
+        (b"\x83n\x01\x01\x07", "-7"),
+        (b"\x83n\x01\x05\0", "0"),
+        (b"\x83o\0\0\0\0\0", "0"),
+        (
+            b"\x83n\x10\x01\0\0\0\0\0\0\0\0\0\0\0\0\0\0\0\x80",
+            "-170141183460469231731687303715884105728",
+        ),
+        (
+            b"\x83n\x11\0\0\0\0\0\0\0\0\0\0\0\0\0\0\0\0\0\0",
+            "16#0000000000000000000000000000000000",
+        ),
+        (b"\x83s\x01\xe5", "'\u{e5}'"),
+        (b"\x83d\0\x01a", "a"),
+        (b"\x83v\0\x02ok", "ok"),
+        (b"\x83h\x01w\x01a", "{a}"),
+        (b"\x83i\0\0\0\0", "{}"),
+        (b"\x83k\0\0", "[]"),
+        (b"\x83m\0\0\0\x01\x0a", "<<0a>>"),
+        (b"\x83t\0\0\0\x01w\x01ka\x01", "#{k=>1}"),
+        (b"\x83qw\x01mw\x01fa\x01", "fun m:f/1"),
+        (b"", "Cut"),
+        (b"\x83", "Cut"),
+        (b"\x83a", "Cut"),
+        (b"\x83h\xff", "Cut"),
+        (b"\x83l\xff\xff\xff\xff", "Cut"),
+        (b"\x83n\xff\0", "Cut"),
+        (b"\x82a\x05", "Tag { tag: 130, at: 0 }"),
+        (b"\x83P", "Tag { tag: 80, at: 1 }"),
+        (b"\x83h\x01F", "Tag { tag: 70, at: 3 }"),
+        (b"\x83qa\x01", "Tag { tag: 97, at: 2 }"),
+        (b"\x83qw\x01mw\x01fb", "Tag { tag: 98, at: 8 }"),
+        (b"\x83w\x02\xff", "Cut"),
+        (b"\x83h\x01w\x01\xff", "AtomText { at: 3 }"),
+        (b"\x83M\0\0\0\0\x01", "BitTail { at: 1 }"),
+        (b"\x83M\0\0\0\x01\x09\xa0", "BitTail { at: 1 }"),
+        (b"\x83jj", "Rest { at: 2 }"),
+    ] {
+        assert_eq!(rt; told(alloc, bytes)?.as_str(), text, "{bytes:?}");
+    }
+    Ok(())
+}
+
+// The version, so many tuples of one term in one another, and these bytes.
+fn nested(alloc: Global, tuples: usize, last: &[u8]) -> Result<Vec<u8>, Fail> {
+    let mut bytes = Vec::new(alloc);
+    bytes.push(131)?;
+    for _ in 0..tuples {
+        bytes.extend_from_slice(b"h\x01")?;
+    }
+    bytes.extend_from_slice(last)?;
+    Ok(bytes)
+}
+
+#[test]
+fn only_256_terms_stand_in_one_another(rt: HostRuntime) -> Result<(), Fail> {
+    let alloc = rt.alloc();
+    let deep = nested(alloc, 255, b"j")?;
+    assert!(rt; read_term(alloc, deep.as_slice()).is_ok());
+    for (tuples, last, refusal) in [
+        (256, b"j".as_slice(), "Depth { at: 513 }"),
+        (256, b"F", "Depth { at: 513 }"),
+        (256, b"", "Cut"),
+        (255, b"qw\x01m", "Depth { at: 512 }"),
+    ] {
+        let bytes = nested(alloc, tuples, last)?;
+        assert_eq!(rt; told(alloc, bytes.as_slice())?.as_str(), refusal);
+    }
+    Ok(())
+}
