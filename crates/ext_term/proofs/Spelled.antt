@@ -1,21 +1,20 @@
 -- What is written of a term is one of its spellings.
-use Rattle.std.proofs.Common.{◌≡◌, ℕ, zero, suc, ◌+◌, ◌-◌, ◌*◌, ◌/◌, ◌%◌, ◌^◌, ◌<◌, ◌≤◌, ◌⊎◌, ltb, leb, ℤ, pos, negsuc, ◌-ℤ◌, Bool, true, false, not, ◌&&◌, ◌==◌, List, [], ◌∷◌, ◌++◌, length, map, get_or, is_some, All, refl, sym, ap, subst, ◌∙◌, arith, inl, inr}
+use Rattle.std.proofs.Common.{◌≡◌, ℕ, zero, suc, ◌-◌, ◌^◌, ◌<◌, ◌≤◌, ◌⊎◌, ltb, leb, pos, negsuc, ◌-ℤ◌, Bool, true, false, not, ◌&&◌, ◌==◌, List, [], ◌∷◌, ◌++◌, length, map, get_or, is_some, All, refl, sym, ap, subst, ◌∙◌, arith, inl, inr}
 use Rattle.std.specs.List.{flat_map, list_all}
-use Rattle.std.proofs.lemmas.Bool.{cases_Bool, cases_lt, cases_eq, false≢true, ltb-true, ltb-false, lt-ltb, le-ltb, leb-true, eq-eqb, ne_eqb}
+use Rattle.std.proofs.lemmas.Bool.{cases_Bool, cases_lt, cases_eq, false≢true, ltb-true, lt-ltb, le-ltb, leb-true, ne_eqb}
 use Rattle.std.proofs.lemmas.Int.{ints}
 use Rattle.std.proofs.lemmas.List.{length-map}
-use Rattle.std.proofs.lemmas.List.Folds.{list_all-map}
 use Rattle.byteorder.specs.Endian.{big_bytes, twos_complement, little_number}
 use Rattle.bk_codec.specs.Spelling.{Then, SpellsMany, SpellsNumber}
-use Rattle.ext_term.specs.Integer.{int_of, is_minus, short_big, big_of}
-use Rattle.ext_term.specs.Spelling.{SpellsBig, SpellsCountedIn, SpellsAtom, SpellsPair, SpellsTagged, SpellsTerm, byte_term}
+use Rattle.ext_term.specs.Integer.{int_of, is_minus, big_of}
+use Rattle.ext_term.specs.Spelling.{SpellsAtom, SpellsPair, SpellsTagged, SpellsTerm, byte_term}
 use Rattle.ext_term.specs.declared.term.Term.{Term, out-Term, roll-Term, roll-out-Term}
 use Rattle.ext_term.specs.declared.term.Term.TheOpen.{Term-F}
 use Rattle.ext_term.specs.declared.term.Term.TheVariants as terms
-use Rattle.ext_term.specs.Writing.{Written, term_written, spelling, integer_written, big_bytes_of, has_32_bits, bits_32, significant, sign_byte, atom_bytes, tuple_head, pair_bytes, byte_list, is_string, string_bytes, FitsName, IsString, FitsBy, IsWritable}
+use Rattle.ext_term.specs.Writing.{term_written, spelling, integer_written, big_bytes_of, has_32_bits, bits_32, significant, sign_byte, atom_bytes, tuple_head, pair_bytes, byte_list, is_string, string_bytes, FitsName, IsString, FitsBy, IsWritable}
 use Rattle.ext_term.proofs.Magnitude.{significant_few, significant_number}
-use Rattle.ext_term.proofs.Strings.{small_parts, both_true, nil_is, bytes_are}
-use Rattle.ext_term.proofs.Written.{int_spelling, wide_spelling, atom_spelling, tuple_spelling, nil_spelling, general_spelling, string_spelling, binary_spelling, bits_spelling, map_spelling, export_spelling, string_is, is_string_here, string_bytes_here}
+use Rattle.ext_term.proofs.Strings.{small_parts, both_true, nil_is, bytes_are, string_is}
+use Rattle.ext_term.proofs.Written.{int_spelling, wide_spelling, atom_spelling, tuple_spelling, nil_spelling, general_spelling, string_spelling, binary_spelling, bits_spelling, map_spelling, export_spelling, is_string_here, string_bytes_here}
 
 -- ---- fields
 

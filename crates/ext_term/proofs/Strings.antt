@@ -1,17 +1,14 @@
 -- Which terms are written as a byte, and which lists as bytes.
-use Rattle.std.proofs.Common.{◌≡◌, ℕ, zero, suc, ◌+◌, ◌^◌, ◌<◌, ◌≤◌, ltb, Bool, true, false, not, ◌&&◌, List, [], ◌∷◌, ◌++◌, length, map, Option, Some, None, is_some, refl, sym, ap, subst, ◌∙◌, arith, inl, inr}
+use Rattle.std.proofs.Common.{◌≡◌, ℕ, ◌<◌, ltb, Bool, true, false, not, ◌&&◌, List, [], ◌∷◌, ◌++◌, map, is_some, refl, sym, ap, subst, ◌∙◌, inl, inr}
 use Rattle.std.specs.List.{flat_map, list_all}
-use Rattle.std.proofs.lemmas.Bool.{cases_Bool, cases_lt, false≢true, ltb-true, ltb-false, lt-ltb, le-ltb, le-leb}
+use Rattle.std.proofs.lemmas.List.Sums.{list_all-from_AllPass}
+use Rattle.std.proofs.lemmas.Bool.{cases_Bool, false≢true, ltb-true, lt-ltb, le-leb}
 use Rattle.ext_term.specs.Spelling.{byte_term}
-use Rattle.ext_term.specs.declared.term.Term.{Term, out-Term, roll-Term, roll-out-Term, map-Term, fold-Term, fold-roll-Term}
+use Rattle.ext_term.specs.declared.term.Term.{Term, out-Term, roll-Term, roll-out-Term}
 use Rattle.ext_term.specs.declared.term.Term.TheOpen.{Term-F}
 use Rattle.ext_term.specs.declared.term.Term.TheVariants as terms
-use Rattle.ext_term.specs.Writing.{Written, written, written_by, term_written, integer_written, has_32_bits, byte_list, is_string}
-use Rattle.ext_term.proofs.Written.{int_written}
-
-layer_written : (f : Term-F Term) → term_written (roll-Term f) ≡ written_by (map-Term Term Written term_written f)
-unfolding term_written
-layer_written f = fold-roll-Term Written written_by f
+use Rattle.ext_term.specs.Writing.{Written, term_written, integer_written, has_32_bits, byte_list, is_string, IsByteTerm, IsString}
+use Rattle.ext_term.proofs.Written.{layer, layer_written, is_string_here}
 
 -- ---- the empty list
 
@@ -26,7 +23,7 @@ integer_is neg mag =
       ]
     ]
 
-nil_layer : (f : Term-F Term) → (written_by (map-Term Term Written term_written f)).is_nil ≡ true → roll-Term f ≡ terms.Nil
+nil_layer : (f : Term-F Term) → (layer f).is_nil ≡ true → roll-Term f ≡ terms.Nil
 nil_layer (Term-F.Int neg mag) is = absurd (false≢true (sym (integer_is neg mag) ∙ is))
 nil_layer (Term-F.Wide neg mag) is = absurd (false≢true is)
 nil_layer (Term-F.Atom name) is = absurd (false≢true is)
@@ -42,7 +39,7 @@ pub nil_is : (t : Term) → (term_written t).is_nil ≡ true → t ≡ terms.Nil
 nil_is t is =
     let f = out-Term t in
     let same : roll-Term f ≡ t = roll-out-Term t in
-    sym same ∙ nil_layer f (ap (λ (w : Written). w.is_nil) (sym (layer_written f)) ∙ ap (λ (u : Term). (term_written u).is_nil) same ∙ is)
+    sym same ∙ nil_layer f (ap (λ (w : Written). w.is_nil) (sym (layer_written (roll-Term f) f refl)) ∙ ap (λ (u : Term). (term_written u).is_nil) same ∙ is)
 
 -- ---- integers of one byte
 
@@ -66,7 +63,7 @@ integer_byte neg mag is =
       ]
     ]
 
-byte_layer : (f : Term-F Term) → is_some (written_by (map-Term Term Written term_written f)).byte ≡ true → ByteTerm (roll-Term f)
+byte_layer : (f : Term-F Term) → is_some (layer f).byte ≡ true → ByteTerm (roll-Term f)
 byte_layer (Term-F.Int neg mag) is =
     let p = integer_byte neg mag is in
     record { byte = mag; below = p.1; is = terms.rolls-Int neg mag ∙ ap (λ (n : Bool). terms.Int n mag) p.0 }
@@ -84,13 +81,29 @@ byte_is : (t : Term) → is_some (term_written t).byte ≡ true → ByteTerm t
 byte_is t is =
     let f = out-Term t in
     let same : roll-Term f ≡ t = roll-out-Term t in
-    subst ByteTerm same (byte_layer f (ap (λ (w : Written). is_some w.byte) (sym (layer_written f)) ∙ ap (λ (u : Term). is_some (term_written u).byte) same ∙ is))
+    subst ByteTerm same (byte_layer f (ap (λ (w : Written). is_some w.byte) (sym (layer_written (roll-Term f) f refl)) ∙ ap (λ (u : Term). is_some (term_written u).byte) same ∙ is))
 
 byte_of_term : (b : ℕ) → b < 256 → byte_list (term_written (byte_term b)).byte ≡ b ∷ []
 unfolding integer_written
-byte_of_term b below = ap (λ (w : Written). byte_list w.byte) (int_written false b) ∙ rw (lt-ltb b 256 below) refl
+byte_of_term b below = ap (λ (w : Written). byte_list w.byte) (layer_written _ (Term-F.Int false b) (terms.rolls-Int false b)) ∙ rw (lt-ltb b 256 below) refl
 
--- ---- lists of them
+-- ---- lists that are written as bytes
+
+byte_written : (t : Term) → IsByteTerm t → is_some (term_written t).byte ≡ true
+unfolding integer_written
+byte_written t is =
+    ap (λ (u : Term). is_some (term_written u).byte) is.2
+    ∙ ap (λ (w : Written). is_some w.byte) (layer_written _ (Term-F.Int false is.0) (terms.rolls-Int false is.0))
+    ∙ rw (lt-ltb is.0 256 is.1) refl
+
+nil_written : (term_written terms.Nil).is_nil ≡ true
+nil_written = ap (λ (w : Written). w.is_nil) (layer_written _ Term-F.Nil terms.rolls-Nil)
+
+pub string_is : (items : List Term) (tail : Term) → IsString items tail → is_string (map term_written items) (term_written tail) ≡ true
+string_is items tail is =
+    let nil : (term_written tail).is_nil ≡ true = ap (λ (t : Term). (term_written t).is_nil) is.3 ∙ nil_written in
+    let bytes : list_all (λ t. is_some (term_written t).byte) items ≡ true = list_all-from_AllPass (λ t. is_some (term_written t).byte) items (λ k d lt. byte_written _ (is.2 k d lt)) in
+    is_string_here items tail ∙ rw (nil, le-leb _ _ is.0, lt-ltb _ _ is.1, bytes) refl
 
 pub record ByteTerms (items : List Term) : Type 0 where
   pub bytes : List ℕ

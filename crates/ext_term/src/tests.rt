@@ -1,9 +1,11 @@
-ghost use Rattle.std.specs.Prelude.{◌≤◌};
+ghost use Rattle.std.specs.Prelude.{◌≡◌, ◌≤◌, ℕ, suc, length, All, IfOk};
+ghost use Rattle.ext_term.specs.Writing.{IsWritable};
 
 use super::*;
 use bk_base::{ByteList, Bytes, Text};
 use sqlite_items::Boxed;
 use std::alloc::Global;
+use std::process::Abort;
 use std::test::Fail;
 
 #[test]
@@ -28,7 +30,7 @@ fn names_are_quoted_where_they_are_not_bare(rt: HostRuntime) -> Result<(), Fail>
     Ok(())
 }
 
-fn int(mag: u128) -> Term {
+fn natural(mag: u128) -> Term {
     Term::Int { neg: false, mag }
 }
 
@@ -62,8 +64,8 @@ fn terms_are_shown(rt: HostRuntime) -> Result<(), Fail> {
     let bytes = ByteList::from_slice(alloc, &[0x0a, 0x0b])?;
     let bits = ByteList::from_slice(alloc, &[0xa0])?;
     let mut pairs = TermPairList::new(alloc);
-    pairs.push((atom(alloc, b"k")?, int(1)))?;
-    let two = list(alloc, [int(2)], Term::Nil)?;
+    pairs.push((atom(alloc, b"k")?, natural(1)))?;
+    let two = list(alloc, [natural(2)], Term::Nil)?;
     let pair = [atom(alloc, b"a")?, atom(alloc, b"B")?];
     let export = Term::Export(
         Text::from_bytes(alloc, b"m")?,
@@ -72,7 +74,7 @@ fn terms_are_shown(rt: HostRuntime) -> Result<(), Fail> {
     );
     let cases: [(Term, &[u8]); 13] = [
         (
-            int(340282366920938463463374607431768211455),
+            natural(340282366920938463463374607431768211455),
             b"340282366920938463463374607431768211455",
         ),
         (Term::Int { neg: true, mag: 1 }, b"-1"),
@@ -82,10 +84,10 @@ fn terms_are_shown(rt: HostRuntime) -> Result<(), Fail> {
         ),
         (Term::Tuple(terms(alloc, pair)?), b"{a,'B'}"),
         (Term::Nil, b"[]"),
-        (list(alloc, [int(104), int(105)], Term::Nil)?, b"[104,105]"),
-        (list(alloc, [int(1)], int(2))?, b"[1|2]"),
+        (list(alloc, [natural(104), natural(105)], Term::Nil)?, b"[104,105]"),
+        (list(alloc, [natural(1)], natural(2))?, b"[1|2]"),
         (list(alloc, [], atom(alloc, b"x")?)?, b"[|x]"),
-        (list(alloc, [int(1)], two)?, b"[1|[2]]"),
+        (list(alloc, [natural(1)], two)?, b"[1|[2]]"),
         (Term::Binary(bytes), b"<<0a0b>>"),
         (
             Term::Bits {
@@ -116,6 +118,7 @@ fn told(alloc: Global, bytes: &[u8]) -> Result<String, Fail> {
 
 #[test]
 fn terms_are_read_or_refused(rt: HostRuntime) -> Result<(), Fail> {
+    one_term();
     let alloc = rt.alloc();
     for (bytes, text) in [
         (b"\x83a\x05".as_slice(), "5"),
@@ -191,4 +194,88 @@ fn only_256_terms_stand_in_one_another(rt: HostRuntime) -> Result<(), Fail> {
         assert_eq!(rt; told(alloc, bytes.as_slice())?.as_str(), refusal);
     }
     Ok(())
+}
+
+// The integer of this value.
+fn int(value: i128) -> Term
+    ensures { (levels : ℕ) → IsWritable (suc levels) result }
+{
+    Term::Int {
+        neg: value < 0,
+        mag: value.unsigned_abs(),
+    }
+}
+
+// The integers of these values.
+fn ints(alloc: Global, values: &[i128]) -> Result<TermList, Fail>
+    ensures each { IfOk result (λ items. (levels : ℕ) → All (IsWritable (suc levels)) items) }
+    ensures len { IfOk result (λ items. length items ≡ length values.now) }
+{
+    let mut items = TermList::new(alloc);
+    for value in values {
+        items.push(int(*value))?;
+    }
+    Ok(items)
+}
+
+// Compares what is written of a term with this file.
+fn writes(rt: &(impl Abort + AllocGlobal), t: &Term, file: &[u8]) -> Result<(), Fail>
+    requires { IsWritable 256 t.now }
+{
+    let written = write_term(rt.alloc(), t)?;
+    assert_eq!(rt; written.as_slice(), file, "{t:?}");
+    Ok(())
+}
+
+#[test]
+fn integers_are_written(rt: HostRuntime) -> Result<(), Fail> {
+    let cases: [(i128, &[u8]); 8] = [
+        (0, b"\x83\x61\0"),
+        (5, b"\x83\x61\x05"),
+        (255, b"\x83\x61\xff"),
+        (256, b"\x83\x62\0\0\x01\0"),
+        (-1, b"\x83\x62\xff\xff\xff\xff"),
+        (-2147483648, b"\x83\x62\x80\0\0\0"),
+        (2147483648, b"\x83\x6e\x04\0\0\0\0\x80"),
+        (-2147483649, b"\x83\x6e\x04\x01\x01\0\0\x80"),
+    ];
+    for (value, file) in cases {
+        writes(&rt, &int(value), file)?;
+    }
+    Ok(())
+}
+
+#[test]
+fn terms_are_written(rt: HostRuntime) -> Result<(), Fail> {
+    canonical();
+    let alloc = rt.alloc();
+    writes(&rt, &Term::Nil, b"\x83\x6a")?;
+    writes(
+        &rt,
+        &Term::Atom(Text::from_bytes(alloc, b"ok")?),
+        b"\x83\x77\x02ok",
+    )?;
+    writes(&rt, &Term::Tuple(TermList::new(alloc)), b"\x83\x68\0")?;
+    let bits = Term::Bits {
+        bytes: ByteList::from_slice(alloc, &[0xa0])?,
+        last: 3,
+    };
+    writes(&rt, &bits, b"\x83\x4d\0\0\0\x01\x03\xa0")?;
+    let bytes = Term::List(ints(alloc, &[104, 105])?, Boxed::new(alloc, Term::Nil)?);
+    writes(&rt, &bytes, b"\x83\x6b\0\x02hi")?;
+    let open = Term::List(ints(alloc, &[1])?, Boxed::new(alloc, int(2))?);
+    writes(&rt, &open, b"\x83\x6c\0\0\0\x01\x61\x01\x61\x02")?;
+    let function = Term::Export(
+        Text::from_bytes(alloc, b"m")?,
+        Text::from_bytes(alloc, b"f")?,
+        1,
+    );
+    writes(&rt, &function, b"\x83\x71\x77\x01m\x77\x01f\x61\x01")?;
+    let mut pairs = TermPairList::new(alloc);
+    pairs.push((int(1), int(2)))?;
+    writes(
+        &rt,
+        &Term::Map(pairs),
+        b"\x83\x74\0\0\0\x01\x61\x01\x61\x02",
+    )
 }

@@ -2,7 +2,7 @@ use Rattle.std.proofs.Common.{◌≡◌, ◌++◌, List, ℕ, take, ap, ◌∙�
 use Rattle.std.proofs.lemmas.Result.{on_ok_weaker}
 use Rattle.ext_term.specs.Writing.{big_bytes_of, significant}
 use Rattle.ext_term.proofs.Magnitude.{significant_front}
-use Rattle.ext_term.proofs.writing.put_big_integer.Goals as goal
+use Rattle.ext_term.proofs.writing.put_significant.Goals as goal
 
 pub returns : goal.returns
 returns c =
