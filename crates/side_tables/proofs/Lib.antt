@@ -3,3 +3,5 @@ pub mod Places
 pub mod Tables
 pub mod Loop
 pub mod Numbered
+pub mod LiteralTables
+pub mod Digits

@@ -36,7 +36,7 @@ file_agrees = record { takes = file_takes; again = file_again }
 
 -- ---- words
 
-words_agree : Agrees word_at SpellsWord
+pub words_agree : Agrees word_at SpellsWord
 words_agree = number_agrees Cut 4
 
 version_ok : (b : Bool) (rest after : List ℕ) → cond b (Ok rest) (Err Version) ≡ Ok after → (b ≡ true) × (rest ≡ after)
@@ -94,7 +94,7 @@ header_takes bytes h rest fits e =
     })
 
 -- a word that is spelled in front of others
-word_again : {Q : List ℕ → Type 0} (x : ℕ) (text rest : List ℕ) (t : Then (SpellsWord x) Q text) → word_at (text ++ rest) ≡ Ok (x, t.back ++ rest)
+pub word_again : {Q : List ℕ → Type 0} (x : ℕ) (text rest : List ℕ) (t : Then (SpellsWord x) Q text) → word_at (text ++ rest) ≡ Ok (x, t.back ++ rest)
 word_again x text rest t =
     ap word_at (ap (λ (u : List ℕ). u ++ rest) t.joined ∙ append_assoc t.front t.back rest) ∙ words_agree.again x t.front (t.back ++ rest) t.front_is
 

@@ -84,8 +84,8 @@ fn first_words(cur: &mut Cursor<'_>) -> Result<Header, SideRefusal>
     })
 }
 
-// The next word.
-fn word(cur: &mut Cursor<'_>) -> Result<u32, SideRefusal>
+/// The next word. `Cut` where it is not whole.
+pub(crate) fn word(cur: &mut Cursor<'_>) -> Result<u32, SideRefusal>
     ensures { Gives refusals.NoMemory (λ n. n) cur.new.rest result (number_at refusals.Cut 4 cur.old.rest) }
 {
     cur.be32().ok_or(SideRefusal::Cut)
@@ -152,8 +152,8 @@ fn file(alloc: Global, cur: &mut Cursor<'_>) -> Result<ByteList, SideRefusal>
     Ok(ByteList::from_slice(alloc, name)?)
 }
 
-// The end, where nothing may be left.
-fn end(cur: &Cursor<'_>) -> Result<(), SideRefusal>
+/// The end. `Rest` where bytes are left.
+pub(crate) fn end(cur: &Cursor<'_>) -> Result<(), SideRefusal>
     ensures { result ≡ alone refusals.Rest tt cur.now.rest }
 {
     if !cur.is_empty() {

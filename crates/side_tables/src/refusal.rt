@@ -6,7 +6,8 @@ ghost use Rattle.side_tables.specs.declared.refusal.SideRefusal.TheVariants as r
 use bk_base::NoMemory;
 use thiserror::Error;
 
-/// Why a payload is no table of lines: the first thing from the left that is wrong with it.
+/// Why a payload is no table of lines or of literals: the first thing from the left that is wrong with
+/// it. A table of literals is refused by `Cut`, `Rest` and `NoMemory` alone.
 #[derive(Clone, Copy, Debug, PartialEq, Eq, Error)]
 pub enum SideRefusal {
     /// The version is not 0.
@@ -19,10 +20,10 @@ pub enum SideRefusal {
     /// Item `item`, counted in the same way, switches to a file above the number of file names.
     #[error("file in item {item}")]
     FileIndex { item: usize },
-    /// Bytes of a word, of an item or of a file name are missing.
+    /// Bytes of a word, of an item, of a file name or of a literal are missing.
     #[error("cut")]
     Cut,
-    /// Bytes stand behind the last file name.
+    /// Bytes stand behind the last file name, or behind the last literal.
     #[error("rest")]
     Rest,
     /// No memory was found.

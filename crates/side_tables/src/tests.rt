@@ -66,6 +66,55 @@ fn tables_are_read_and_shown(rt: HostRuntime) -> Result<(), Fail> {
     Ok(())
 }
 
+// Payloads of literals, each with its text or its refusal.
+const LITERALS: [(&[u8], &str); 9] = [
+    (
+        b"\0\0\0\0\0\0\0\x02\0\0\0\x03\x83\x61\x05\0\0\0\x02\x83\x46",
+        "0 5\n1 bytes 8346\n",
+    ),
+    (b"\0\0\0\0\0\0\0\x01\0\0\0\0", "0 bytes \n"),
+    (b"\0\0\0\0\0\0\0\0", ""),
+    (b"\0\0\0\x09\0", "packed\n"),
+    // literals, as many as a word states, none of which is there
+    (b"\0\0\0\0\xff\xff\xff\xff", "Cut"),
+    (b"\0\0\0\0\0\0\0\x01\0\0\0\x02\x83", "Cut"),
+    (b"\0\0\0", "Cut"),
+    (b"\0\0\0\0\0\0\0", "Cut"),
+    (b"\0\0\0\0\0\0\0\0\0", "Rest"),
+];
+
+#[test]
+fn literals_are_read_and_shown(rt: HostRuntime) -> Result<(), Fail> {
+    one_literal_table();
+    for (payload, expected) in LITERALS {
+        match read_literals(rt.alloc(), payload) {
+            Ok(literals) => {
+                let text = literals_text(rt.alloc(), &literals)?;
+                assert_eq!(rt; text.as_slice(), expected.as_bytes(), "{payload:?}");
+            }
+            Err(refusal) => {
+                let text = format!(in rt.alloc(); "{refusal:?}")?;
+                assert_eq!(rt; text.as_str(), expected, "{payload:?}");
+            }
+        }
+    }
+    Ok(())
+}
+
+#[test]
+fn literals_are_found_by_number(rt: HostRuntime) -> Result<(), Fail> {
+    let mut literals = LiteralList::new(rt.alloc());
+    assert!(rt; literals.is_empty() && literals.get(0).is_none());
+    literals.push(Literal {
+        bytes: b"a",
+        term: None,
+    })?;
+    let first = literals.get(0).ok_or("no literal")?;
+    assert!(rt; first.bytes == b"a".as_slice() && first.term.is_none());
+    assert_eq!(rt; (literals.len(), literals.as_slice().len()), (1, 1));
+    Ok(())
+}
+
 #[test]
 fn rows_are_found_by_number(rt: HostRuntime) -> Result<(), Fail> {
     let mut places = PlaceList::new(rt.alloc());

@@ -62,8 +62,8 @@ fn put_file(out: &mut Bytes, number: usize, name: &[u8]) -> Result<(), NoMemory>
     out.push(b'\n')
 }
 
-// A mark, and a number in decimal.
-fn put_number<I: Integer>(out: &mut Bytes, mark: &[u8], n: I) -> Result<(), NoMemory>
+/// Puts a mark at the end, and behind it a number in decimal.
+pub(crate) fn put_number<I: Integer>(out: &mut Bytes, mark: &[u8], n: I) -> Result<(), NoMemory>
     ensures { OnOk result (out.new.items ≡ out.old.items ++ mark.now ++ I.text n) }
 {
     out.extend(mark)?;
