@@ -8,6 +8,8 @@ use Rattle.index_tables.specs.Shape.{Shape, import_shape, export_shape, fun_shap
 use Rattle.index_tables.specs.Text.{atoms_text, imports_text, exports_text, funs_text}
 use Rattle.side_tables.specs.Reading.{lines_of}
 use Rattle.side_tables.specs.Text.{lines_text}
+use Rattle.side_tables.specs.LiteralReading.{literals_of}
+use Rattle.side_tables.specs.LiteralText.{literals_text}
 use Rattle.ext_term.specs.Reading.{term_of}
 use Rattle.ext_term.specs.Text.{term_text}
 use Rattle.beam_cli.specs.declared.refusal.Refusal.{Refusal}
@@ -32,17 +34,21 @@ entries_text shape text id chunks =
 abbrev pub term_line : Id → List PlainChunk → Result (List ℕ) Refusal
 term_line id chunks = part_at (Term id) term_of id chunks >>= λ t. Ok (term_text t ++ codes "\n")
 
+-- the literals
+abbrev pub literals_shown : List PlainChunk → Result (List ℕ) Refusal
+literals_shown chunks = part_at (Side (id_of (codes "LitT"))) literals_of (id_of (codes "LitT")) chunks >>= λ literals. Ok (literals_text literals)
+
 -- the lines of the source
 abbrev pub lines_shown : List PlainChunk → Result (List ℕ) Refusal
 lines_shown chunks = part_at (Side (id_of (codes "Line"))) lines_of (id_of (codes "Line")) chunks >>= λ lines. Ok (lines_text lines)
 
-abbrev pub shown_text : Shown → List PlainChunk → Result (List ℕ) Refusal
+unfoldable pub shown_text : Shown → List PlainChunk → Result (List ℕ) Refusal
 shown_text Atoms chunks = atoms_at chunks >>= λ names. Ok (atoms_text names)
 shown_text Imports chunks = entries_text import_shape imports_text (codes "ImpT") chunks
 shown_text Exports chunks = entries_text export_shape exports_text (codes "ExpT") chunks
 shown_text Locals chunks = entries_text export_shape exports_text (codes "LocT") chunks
 shown_text Funs chunks = entries_text fun_shape funs_text (codes "FunT") chunks
-shown_text Literals chunks = term_line (id_of (codes "LitT")) chunks
+shown_text Literals chunks = literals_shown chunks
 shown_text Lines chunks = lines_shown chunks
 shown_text Attributes chunks = term_line (id_of (codes "Attr")) chunks
 shown_text Compile chunks = term_line (id_of (codes "CInf")) chunks

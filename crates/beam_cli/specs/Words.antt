@@ -15,7 +15,7 @@ is_name [] = false
 is_name (c ∷ rest) = not (c == 45) || length rest == 0
 
 -- the table of names that a word names
-abbrev pub names_by : List ℕ → Option Shown
+unfoldable pub names_by : List ℕ → Option Shown
 names_by word =
     if bytes_eq word (codes "atoms") then Some Atoms
     else if bytes_eq word (codes "imports") then Some Imports
@@ -25,7 +25,7 @@ names_by word =
     else None
 
 -- the table that a word names
-abbrev pub shown_by : List ℕ → Option Shown
+unfoldable pub shown_by : List ℕ → Option Shown
 shown_by word =
     if bytes_eq word (codes "literals") then Some Literals
     else if bytes_eq word (codes "lines") then Some Lines

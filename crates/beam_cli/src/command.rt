@@ -43,6 +43,7 @@ fn names_file(word: &Text) -> bool
 }
 
 // The table of names that a word names.
+#[tactic(auto, unfolding(crate::specs::Words::names_by))]
 fn names_by(word: &[u8]) -> Option<Shown>
     ensures { result ≡ names_by word.now }
 {
@@ -62,6 +63,7 @@ fn names_by(word: &[u8]) -> Option<Shown>
 }
 
 // The table that a word names.
+#[tactic(auto, unfolding(crate::specs::Words::shown_by))]
 fn shown_by(word: &Text) -> Option<Shown>
     ensures { result ≡ shown_by word.now }
 {

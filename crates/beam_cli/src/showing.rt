@@ -7,7 +7,7 @@ ghost use Rattle.index_tables.specs.Text.{imports_text, exports_text, funs_text}
 ghost use Rattle.side_tables.specs.Reading.{lines_of};
 ghost use Rattle.ext_term.specs.Reading.{term_of};
 ghost use Rattle.beam_cli.specs.Needs.{part_at};
-ghost use Rattle.beam_cli.specs.Showing.{entries_text, id_of, lines_shown, show_output, shown_text, term_line};
+ghost use Rattle.beam_cli.specs.Showing.{entries_text, lines_shown, literals_shown, show_output, shown_text, term_line};
 
 use crate::needs::{atoms_of, form_of, payload_of};
 use crate::refusal::Refusal;
@@ -19,7 +19,7 @@ use index_tables::{
     TableRefusal, atoms_text, exports_text, funs_text, imports_text, read_exports, read_funs,
     read_imports, read_locals,
 };
-use side_tables::{SideRefusal, lines_text, read_lines};
+use side_tables::{SideRefusal, lines_text, literals_text, read_lines, read_literals};
 use std::alloc::Global;
 
 fn imports(alloc: Global, form: &Form<'_>) -> Result<Bytes, Refusal>
@@ -74,6 +74,19 @@ fn funs(alloc: Global, form: &Form<'_>) -> Result<Bytes, Refusal>
     }
 }
 
+// The literals.
+fn literals(alloc: Global, form: &Form<'_>) -> Result<Bytes, Refusal>
+    ensures { GivesAll Refusal.NoMemory (λ text. text.items) result (literals_shown form.now) }
+{
+    let id = Id(*b"LitT");
+    let payload = payload_of(form, id)?;
+    match read_literals(alloc, payload) {
+        Ok(table) => Ok(literals_text(alloc, &table)?),
+        Err(SideRefusal::NoMemory) => Err(Refusal::NoMemory),
+        Err(refusal) => Err(Refusal::Side(id, refusal)),
+    }
+}
+
 // The lines of the source.
 fn lines(alloc: Global, form: &Form<'_>) -> Result<Bytes, Refusal>
     ensures { GivesAll Refusal.NoMemory (λ text. text.items) result (lines_shown form.now) }
@@ -111,6 +124,7 @@ fn term_line(alloc: Global, form: &Form<'_>, id: Id) -> Result<Bytes, Refusal>
 }
 
 // The text of one table.
+#[tactic(auto, unfolding(crate::specs::Showing::shown_text))]
 fn shown_text(alloc: Global, what: Shown, form: &Form<'_>) -> Result<Bytes, Refusal>
     ensures { GivesAll Refusal.NoMemory (λ text. text.items) result (shown_text what form.now) }
 {
@@ -123,7 +137,7 @@ fn shown_text(alloc: Global, what: Shown, form: &Form<'_>) -> Result<Bytes, Refu
         Shown::Exports => exports(alloc, form),
         Shown::Locals => locals(alloc, form),
         Shown::Funs => funs(alloc, form),
-        Shown::Literals => term_line(alloc, form, Id(*b"LitT")),
+        Shown::Literals => literals(alloc, form),
         Shown::Lines => lines(alloc, form),
         Shown::Attributes => term_line(alloc, form, Id(*b"Attr")),
         Shown::Compile => term_line(alloc, form, Id(*b"CInf")),

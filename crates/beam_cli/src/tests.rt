@@ -276,6 +276,163 @@ fn tables_are_shown_or_refused(rt: HostRuntime) -> Result<(), Fail> {
     )
 }
 
+#[test]
+fn literals_and_lines_are_shown_or_refused(rt: HostRuntime) -> Result<(), Fail> {
+    for (what, id, payload, status, output, message) in [
+        (
+            "literals",
+            b"LitT".as_slice(),
+            b"\0\0\0\x09\0".as_slice(),
+            0,
+            "packed\n",
+            "",
+        ),
+        (
+            "literals",
+            b"LitT",
+            b"\0\0\0\0\0\0\0\x02\0\0\0\x03\x83a\x05\0\0\0\x02\x83F",
+            0,
+            "0 5\n1 bytes 8346\n",
+            "",
+        ),
+        ("literals", b"LitT", b"\0\0\0", 3, "", "LitT: cut"),
+        (
+            "literals",
+            b"LitT",
+            b"\0\0\0\0\xff\xff\xff\xff",
+            3,
+            "",
+            "LitT: cut",
+        ),
+        ("literals", b"LitT", b"\0\0\0\0\0\0\0\0a", 3, "", "LitT: rest"),
+        ("literals", b"Line", b"", 3, "", "no chunk LitT"),
+        (
+            "lines",
+            b"Line",
+            b"\0\0\0\0\0\0\0\0\0\0\0\x04\0\0\0\x02\0\0\0\01A",
+            0,
+            "instructions 4\n1 0:3\n2 0:4\n",
+            "",
+        ),
+        (
+            "lines",
+            b"Line",
+            b"\0\0\0\0\0\0\0\0\0\0\0\x01\0\0\0\x01\0\0\0\x01\x121\0\x01a",
+            0,
+            "instructions 1\n1 1:3\nfile 1 a\n",
+            "",
+        ),
+        (
+            "lines",
+            b"Line",
+            b"\0\0\0\0\0\0\0\0\0\0\0\x01\0\0\0\x02\0\0\0\x01\x121A\0\x01a",
+            0,
+            "instructions 1\n1 1:3\n2 1:4\nfile 1 a\n",
+            "",
+        ),
+        ("lines", b"Line", b"\0\0\0\x01", 3, "", "Line: version"),
+        (
+            "lines",
+            b"Line",
+            b"\0\0\0\0\0\0\0\0\0\0\0\0\xff\xff\xff\xff\0\0\0\0",
+            3,
+            "",
+            "Line: cut",
+        ),
+        (
+            "lines",
+            b"Line",
+            b"\0\0\0\0\0\0\0\0\0\0\0\0\0\0\0\0\xff\xff\xff\xff",
+            3,
+            "",
+            "Line: cut",
+        ),
+        (
+            "lines",
+            b"Line",
+            b"\0\0\0\0\0\0\0\0\0\0\0\0\0\0\0\x02\0\0\0\x001\x10",
+            3,
+            "",
+            "Line: item 1",
+        ),
+        (
+            "lines",
+            b"Line",
+            b"\0\0\0\0\0\0\0\0\0\0\0\0\0\0\0\x01\0\0\0\x01\x12\x22",
+            3,
+            "",
+            "Line: file in item 1",
+        ),
+        (
+            "lines",
+            b"Line",
+            b"\0\0\0\0\0\0\0\0\0\0\0\0\0\0\0\0\0\0\0\0a",
+            3,
+            "",
+            "Line: rest",
+        ),
+        ("lines", b"LitT", b"", 3, "", "no chunk Line"),
+    ] {
+        shows(&rt, what, &[(id, payload)], status, output, message)?;
+    }
+    Ok(())
+}
+
+#[test]
+fn terms_are_shown_or_refused(rt: HostRuntime) -> Result<(), Fail> {
+    let mut deep = Vec::new(rt.alloc());
+    deep.push(131)?;
+    for _ in 0..256 {
+        deep.extend_from_slice(b"h\x01")?;
+    }
+    deep.push(b'j')?;
+    for (what, id, payload, status, output, message) in [
+        (
+            "attributes",
+            b"Attr".as_slice(),
+            b"\x83l\0\0\0\x01h\x02w\x03vsnl\0\0\0\x01n\x10\0\x01\0\0\0\0\0\0\0\0\0\0\0\0\0\0\x01jj"
+                .as_slice(),
+            0,
+            "[{vsn,[1329227995784915872903807060280344577]}]\n",
+            "",
+        ),
+        ("compile", b"CInf", b"\x83j", 0, "[]\n", ""),
+        ("attributes", b"Attr", b"", 3, "", "Attr: cut"),
+        ("attributes", b"Attr", b"\x82j", 3, "", "Attr: tag 130 at 0"),
+        ("compile", b"CInf", b"\x83P", 3, "", "CInf: tag 80 at 1"),
+        (
+            "attributes",
+            b"Attr",
+            deep.as_slice(),
+            3,
+            "",
+            "Attr: depth at 513",
+        ),
+        (
+            "attributes",
+            b"Attr",
+            b"\x83w\x01\xff",
+            3,
+            "",
+            "Attr: atom text at 1",
+        ),
+        (
+            "compile",
+            b"CInf",
+            b"\x83M\0\0\0\0\x01",
+            3,
+            "",
+            "CInf: bit tail at 1",
+        ),
+        ("compile", b"CInf", b"\x83jj", 3, "", "CInf: rest at 2"),
+        ("attributes", b"CInf", b"\x83j", 3, "", "no chunk Attr"),
+        ("compile", b"Attr", b"\x83j", 3, "", "no chunk CInf"),
+    ] {
+        shows(&rt, what, &[(id, payload)], status, output, message)?;
+    }
+    Ok(())
+}
+
 // Lists the form of one chunk of code, and compares the status, the output and the message.
 fn lists(
     rt: &(impl Abort + AllocGlobal),
