@@ -1,6 +1,6 @@
 //! Reading a term.
 
-ghost use Rattle.std.specs.Prelude.{◌≡◌, ◌⊎◌, IfOk, Ok, Err};
+ghost use Rattle.std.specs.Prelude.{◌≡◌, ◌≤◌, ◌⊎◌, IfOk, OnOk, Ok, Err};
 ghost use Rattle.bk_codec.specs.Reading.{Gives, GivesAll, many_at};
 ghost use Rattle.ext_term.specs.Spelling.{SpellsFile};
 ghost use Rattle.ext_term.specs.Reading.{end_of, tag_at, name_at, arity_at, export_at, pair_at, nested_at, tagged_at, term_at, term_of};
@@ -23,6 +23,7 @@ const DEPTH: usize = 256;
 #[tactic(auto, unfolding(crate::specs::Reading::tag_at))]
 fn tag(cur: &mut Cursor<'_>, levels: usize) -> Result<u8, TermRefusal>
     ensures read { Gives refusals.NoMemory (λ tag. tag) cur.new.rest result (tag_at (end_of cur.old) levels cur.old.rest) }
+    ensures open { OnOk result (1 ≤ levels) }
     ensures end { end_of cur.new ≡ end_of cur.old }
 {
     let at = cur.at();
@@ -181,10 +182,7 @@ fn term(alloc: Global, cur: &mut Cursor<'_>, levels: usize) -> Result<Term, Term
     ensures end { end_of cur.new ≡ end_of cur.old }
 {
     let at = cur.at();
-    let tag = cur.byte().ok_or(TermRefusal::Cut)?;
-    if levels == 0 {
-        return Err(TermRefusal::Depth { at });
-    }
+    let tag = tag(cur, levels)?;
     tagged(alloc, cur, levels - 1, at, tag)
 }
 

@@ -38,8 +38,5 @@ terms-loop-preserved t c =
 pub term-returns-in_err-tag-clause-read : goal.term-returns-in_err-tag-clause-read
 term-returns-in_err-tag-clause-read t c = rw (term_at-is (end_of c.args.cur.now) c.args.levels c.args.cur.now.rest) (search rules)
 
-pub term-returns-then-levels-eq0-clause-read : goal.term-returns-then-levels-eq0-clause-read
-term-returns-then-levels-eq0-clause-read t c = rw (term_at-is (end_of c.args.cur.now) c.args.levels c.args.cur.now.rest) (search rules)
-
 pub term-returns-clause-read : goal.term-returns-clause-read
 term-returns-clause-read t c = rw (term_at-is (end_of c.args.cur.now) c.args.levels c.args.cur.now.rest) (search rules)
