@@ -143,7 +143,17 @@ fn say_tag<E: Sink>(err: &mut E, name: &Text, id: Id, tag: u8, at: usize)
     let name = name.as_bytes();
     let _ = emit_all(
         err,
-        &[b"beamkit: ", name, b": ", id.as_bytes(), b": tag ", tag, b" at ", at, b"\n"],
+        &[
+            b"beamkit: ",
+            name,
+            b": ",
+            id.as_bytes(),
+            b": tag ",
+            tag,
+            b" at ",
+            at,
+            b"\n",
+        ],
     );
 }
 
@@ -160,7 +170,14 @@ fn say_term<E: Sink>(err: &mut E, name: &Text, id: Id, refusal: TermRefusal)
         TermRefusal::BitTail { at } => say_at(err, name, id, b": bit tail at ", at),
         TermRefusal::Rest { at } => say_at(err, name, id, b": rest at ", at),
         TermRefusal::NoMemory => {
-            say_about(err, name, IdText::new(id).as_bytes(), b": out of memory", b"", b"")
+            say_about(
+                err,
+                name,
+                IdText::new(id).as_bytes(),
+                b": out of memory",
+                b"",
+                b"",
+            )
         }
     }
 }

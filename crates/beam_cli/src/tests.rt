@@ -304,7 +304,14 @@ fn literals_and_lines_are_shown_or_refused(rt: HostRuntime) -> Result<(), Fail> 
             "",
             "LitT: cut",
         ),
-        ("literals", b"LitT", b"\0\0\0\0\0\0\0\0a", 3, "", "LitT: rest"),
+        (
+            "literals",
+            b"LitT",
+            b"\0\0\0\0\0\0\0\0a",
+            3,
+            "",
+            "LitT: rest",
+        ),
         ("literals", b"Line", b"", 3, "", "no chunk LitT"),
         (
             "lines",
@@ -390,8 +397,7 @@ fn terms_are_shown_or_refused(rt: HostRuntime) -> Result<(), Fail> {
         (
             "attributes",
             b"Attr".as_slice(),
-            b"\x83l\0\0\0\x01h\x02w\x03vsnl\0\0\0\x01n\x10\0\x01\0\0\0\0\0\0\0\0\0\0\0\0\0\0\x01jj"
-                .as_slice(),
+            b"\x83l\0\0\0\x01h\x02w\x03vsnl\0\0\0\x01n\x10\0\x01\0\0\0\0\0\0\0\0\0\0\0\0\0\0\x01jj".as_slice(),
             0,
             "[{vsn,[1329227995784915872903807060280344577]}]\n",
             "",

@@ -1,9 +1,8 @@
 -- Integers, names, bytes and bits are read where they are spelled.
-use Rattle.std.proofs.Common.{◌≡◌, ◌≤◌, ◌<◌, ◌-◌, ℕ, Bool, true, false, cond, ◌&&◌, ◌||◌, ◌==◌, List, [], ◌∷◌, ◌++◌, length, map, Result, Ok, Err, refl, sym, ap, subst, ◌∙◌, arith, inl, inr}
+use Rattle.std.proofs.Common.{◌≡◌, ℕ, Bool, true, false, cond, ◌||◌, ◌==◌, List, [], ◌∷◌, ◌++◌, length, map, Result, Ok, Err, refl, sym, ap, subst, ◌∙◌, inl, inr}
 use Rattle.std.proofs.lemmas.Bool.{eqb-true}
 use Rattle.std.specs.Str.{IsUtf8, is_utf8, encode_utf8_all}
 use Rattle.std.proofs.lemmas.Str.{IsUtf8-from_is_utf8, is_utf8-from_IsUtf8}
-use Rattle.byteorder.specs.Endian.{twos_complement}
 use Rattle.bk_codec.specs.Reading.{◌>>=◌, giving, made_of, byte_at, bytes_at, number_at}
 use Rattle.bk_codec.specs.Spelling.{IsBytes, Then, SpellsNumber}
 use Rattle.bk_codec.proofs.Steps.{bind_ok, chosen, ok_is}
@@ -12,7 +11,7 @@ use Rattle.ext_term.specs.declared.term.Term.{Term}
 use Rattle.ext_term.specs.declared.term.Term.TheVariants as terms
 use Rattle.ext_term.specs.declared.refusal.TermRefusal.{TermRefusal}
 use Rattle.ext_term.specs.declared.refusal.TermRefusal.TheVariants.{Cut, AtomText, BitTail}
-use Rattle.ext_term.specs.Integer.{int_of, big_of}
+use Rattle.ext_term.specs.Integer.{big_of}
 use Rattle.ext_term.specs.Spelling.{SpellsBytes, SpellsBig, SpellsAtom, latin_100, latin_115, utf8_118, utf8_119, byte_term}
 use Rattle.ext_term.specs.Reading.{sized_at, big_at, latin_at, text_of, utf8_at, atom_at, is_atom_tag, string_at, has_bits, bits_at}
 use Rattle.ext_term.proofs.Agreeing.{Two, Made, agrees_as, agrees_two, agrees_made, agrees_test, agrees_bytes}
@@ -49,24 +48,30 @@ sign_and_magnitude n =
 big_to : (k : ℕ) (t : Term) (text : List ℕ) → Two (SpellsNumber k) SignAndMagnitude t text → IsBig k t text
 big_to k t text is =
     let inner = is.1.back_is in
-    let made = inner.1.back_is in
-    (inner.0, made.0, made.1, record {
-      front = is.1.front;
-      back = is.1.back;
-      front_is = subst (λ (n : ℕ). SpellsNumber k n is.1.front) (sym made.2.1) is.1.front_is;
-      back_is = inner.1.joined ∙ ap (λ (u : List ℕ). u ++ inner.1.back) inner.1.front_is ∙ ap (λ (u : List ℕ). inner.0 ∷ u) made.2.0;
-      joined = is.1.joined;
-    })
+    let made = inner.1.back_is in (
+      inner.0,
+      made.0,
+      made.1,
+      record {
+        front = is.1.front;
+        back = is.1.back;
+        front_is = subst (λ (n : ℕ). SpellsNumber k n is.1.front) (sym made.2.1) is.1.front_is;
+        back_is = inner.1.joined ∙ ap (λ (u : List ℕ). u ++ inner.1.back) inner.1.front_is ∙ ap (λ (u : List ℕ). inner.0 ∷ u) made.2.0;
+        joined = is.1.joined;
+      },
+    )
 
 big_from : (k : ℕ) (t : Term) (text : List ℕ) → IsBig k t text → Two (SpellsNumber k) SignAndMagnitude t text
-big_from k t text (sign, mag, made, is) =
-    (length mag, record {
-      front = is.front;
-      back = is.back;
-      front_is = is.front_is;
-      back_is = (sign, record { front = sign ∷ []; back = mag; front_is = refl; back_is = (mag, made, (refl, refl)); joined = is.back_is });
-      joined = is.joined;
-    })
+big_from k t text (sign, mag, made, is) = (
+  length mag,
+  record {
+    front = is.front;
+    back = is.back;
+    front_is = is.front_is;
+    back_is = (sign, record { front = sign ∷ []; back = mag; front_is = refl; back_is = (mag, made, (refl, refl)); joined = is.back_is });
+    joined = is.joined;
+  },
+)
 
 pub big_agrees : (k : ℕ) → Agrees (big_at k) (IsBig k)
 big_agrees k =
@@ -78,10 +83,6 @@ big_agrees k =
 
 pub latin_agrees : (k : ℕ) → Agrees (latin_at k) (Made encode_utf8_all (SpellsBytes k))
 latin_agrees k = agrees_made encode_utf8_all (sized_at k) (SpellsBytes k) (agrees_bytes Cut k)
-
-
-
-
 
 -- a name in UTF-8, with the number of its bytes in k bytes
 abbrev pub IsUtf8In : ℕ → List ℕ → List ℕ → Type 0
@@ -127,16 +128,16 @@ atom_take offset tag one bytes name rest fits e =
     elim (chosen (tag == 100) (latin_at 2 bytes) _ _ e) [
       | inl a ↦ retag tag 100 name bytes rest a.0 (latin_take 2 100 latin_100 bytes name rest fits a.1)
       | inr a ↦
-        elim (chosen (tag == 115) (latin_at 1 bytes) _ _ a.1) [
-          | inl b ↦ retag tag 115 name bytes rest b.0 (latin_take 1 115 latin_115 bytes name rest fits b.1)
-          | inr b ↦
-            elim (chosen (tag == 118) (utf8_at offset 2 bytes) _ _ b.1) [
-              | inl c ↦ retag tag 118 name bytes rest c.0 (Takes-weaker (λ text is. utf8_118 name text is.0 is.1) ((utf8_agrees offset 2).takes bytes name rest fits c.1))
-              | inr c ↦
-                let last = last_of_four (tag == 100) (tag == 115) (tag == 118) (tag == 119) one a.0 b.0 c.0 in
-                retag tag 119 name bytes rest last (Takes-weaker (λ text is. utf8_119 name text is.0 is.1) ((utf8_agrees offset 1).takes bytes name rest fits c.1))
-            ]
-        ]
+          elim (chosen (tag == 115) (latin_at 1 bytes) _ _ a.1) [
+            | inl b ↦ retag tag 115 name bytes rest b.0 (latin_take 1 115 latin_115 bytes name rest fits b.1)
+            | inr b ↦
+                elim (chosen (tag == 118) (utf8_at offset 2 bytes) _ _ b.1) [
+                  | inl c ↦ retag tag 118 name bytes rest c.0 (Takes-weaker (λ text is. utf8_118 name text is.0 is.1) ((utf8_agrees offset 2).takes bytes name rest fits c.1))
+                  | inr c ↦
+                      let last = last_of_four (tag == 100) (tag == 115) (tag == 118) (tag == 119) one a.0 b.0 c.0 in
+                      retag tag 119 name bytes rest last (Takes-weaker (λ text is. utf8_119 name text is.0 is.1) ((utf8_agrees offset 1).takes bytes name rest fits c.1))
+                ]
+          ]
     ]
 
 atom_again : (offset tag : ℕ) (name text rest : List ℕ) → AtomBehind tag name text → (is_atom_tag tag ≡ true) × (atom_at offset tag (text ++ rest) ≡ Ok (name, rest))
@@ -150,10 +151,10 @@ atom_again offset tag name text rest (utf8_119 s bytes utf8 is) = (refl, (utf8_a
 pub atom_agrees : (offset tag : ℕ) (e : TermRefusal) → Agrees (λ bytes. cond (is_atom_tag tag) (atom_at offset tag bytes) (Err e)) (AtomBehind tag)
 atom_agrees offset tag e = record {
   takes = λ bytes name rest fits read.
-    elim (chosen (is_atom_tag tag) (atom_at offset tag bytes) _ _ read) [
-      | inl a ↦ atom_take offset tag a.0 bytes name rest fits a.1
-      | inr a ↦ absurd cc
-    ];
+      elim (chosen (is_atom_tag tag) (atom_at offset tag bytes) _ _ read) [
+        | inl a ↦ atom_take offset tag a.0 bytes name rest fits a.1
+        | inr a ↦ absurd cc
+      ];
   again = λ name text rest is. let a = atom_again offset tag name text rest is in rw a.0 a.1;
 }
 
@@ -189,9 +190,9 @@ bits_tail : (offset : ℕ) (read : Result (List ℕ × List ℕ) TermRefusal) (l
     ≡ made_of bits_of (made_of (λ s. (s, last)) read >>= λ x. cond (has_bits x.0.0 x.0.1) (giving x.0 x.1) (Err (BitTail offset)))
 bits_tail offset (Err e) last = refl
 bits_tail offset (Ok s) last = elim (chosen (has_bits s.0 last) true false _ refl) [
-      | inl a ↦ rw a.0 refl
-      | inr a ↦ rw a.0 refl
-    ]
+  | inl a ↦ rw a.0 refl
+  | inr a ↦ rw a.0 refl
+]
 
 bits_last : (offset : ℕ) (read : Result (ℕ × List ℕ) TermRefusal) (n : ℕ)
     → (read >>= λ last. bytes_at Cut n last.1 >>= λ s. cond (has_bits s.0 last.0) (giving (terms.Bits s.0 last.0) s.1) (Err (BitTail offset)))
@@ -218,30 +219,44 @@ bits_by_agree offset =
     (λ bytes. (number_at Cut 4 bytes >>= λ n. last_and_bytes n.0 n.1) >>= λ x. cond (has_bits x.0.0 x.0.1) (giving x.0 x.1) (Err (BitTail offset)))
     (λ x text. (has_bits x.0 x.1 ≡ true) × Two (SpellsNumber 4) LastAndBytes x text)
     (agrees_test (λ x. has_bits x.0 x.1) (BitTail offset) (λ bytes. number_at Cut 4 bytes >>= λ n. last_and_bytes n.0 n.1) (Two (SpellsNumber 4) LastAndBytes)
-      (agrees_two (number_at Cut 4) (SpellsNumber 4) (λ bytes n rest. last_and_bytes n rest) LastAndBytes (number_agrees Cut 4) (λ bytes n. last_and_bytes_agree n)))
+    (agrees_two (number_at Cut 4) (SpellsNumber 4) (λ bytes n rest. last_and_bytes n rest) LastAndBytes (number_agrees Cut 4) (λ bytes n. last_and_bytes_agree n)))
 
 bits_to : (t : Term) (text : List ℕ) → BitsBy t text → IsBits t text
 bits_to t text (x, made, (has, is)) =
     let inner = is.1.back_is in
     let pair = inner.1.back_is in
-    let same : x ≡ (pair.0, inner.0) = sym pair.1 in
-    (pair.0, inner.0, subst (λ (y : List ℕ × ℕ). has_bits y.0 y.1 ≡ true) same has, subst (λ (y : List ℕ × ℕ). terms.Bits y.0 y.1 ≡ t) same made, record {
-      front = is.1.front;
-      back = is.1.back;
-      front_is = subst (λ (n : ℕ). SpellsNumber 4 n is.1.front) (sym pair.2.1) is.1.front_is;
-      back_is = inner.1.joined ∙ ap (λ (u : List ℕ). u ++ inner.1.back) inner.1.front_is ∙ ap (λ (u : List ℕ). inner.0 ∷ u) pair.2.0;
-      joined = is.1.joined;
-    })
+    let same : x ≡ (pair.0, inner.0) = sym pair.1 in (
+      pair.0,
+      inner.0,
+      subst (λ (y : List ℕ × ℕ). has_bits y.0 y.1 ≡ true) same has,
+      subst (λ (y : List ℕ × ℕ). terms.Bits y.0 y.1 ≡ t) same made,
+      record {
+        front = is.1.front;
+        back = is.1.back;
+        front_is = subst (λ (n : ℕ). SpellsNumber 4 n is.1.front) (sym pair.2.1) is.1.front_is;
+        back_is = inner.1.joined ∙ ap (λ (u : List ℕ). u ++ inner.1.back) inner.1.front_is ∙ ap (λ (u : List ℕ). inner.0 ∷ u) pair.2.0;
+        joined = is.1.joined;
+      },
+    )
 
 bits_from : (t : Term) (text : List ℕ) → IsBits t text → BitsBy t text
-bits_from t text (s, last, has, made, is) =
-    ((s, last), made, (has, (length s, record {
-      front = is.front;
-      back = is.back;
-      front_is = is.front_is;
-      back_is = (last, record { front = last ∷ []; back = s; front_is = refl; back_is = (s, refl, (refl, refl)); joined = is.back_is });
-      joined = is.joined;
-    })))
+bits_from t text (s, last, has, made, is) = (
+  (s, last),
+  made,
+  (
+    has,
+    (
+      length s,
+      record {
+        front = is.front;
+        back = is.back;
+        front_is = is.front_is;
+        back_is = (last, record { front = last ∷ []; back = s; front_is = refl; back_is = (s, refl, (refl, refl)); joined = is.back_is });
+        joined = is.joined;
+      },
+    ),
+  ),
+)
 
 pub bits_agree : (offset : ℕ) → Agrees (bits_at offset) IsBits
 bits_agree offset =

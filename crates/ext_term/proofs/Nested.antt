@@ -1,8 +1,7 @@
 -- Terms are read where they are spelled.
-use Rattle.std.proofs.Common.{◌≡◌, ◌≤◌, ◌-◌, ℕ, zero, suc, Bool, true, false, cond, ◌&&◌, ◌||◌, ◌==◌, ltb, leb, List, [], ◌∷◌, ◌++◌, length, map, Result, Ok, Err, refl, sym, ap, subst, ◌∙◌, arith, inl, inr}
+use Rattle.std.proofs.Common.{◌≡◌, ◌≤◌, ◌-◌, ℕ, zero, suc, false, cond, ◌==◌, List, [], ◌∷◌, ◌++◌, length, Result, Ok, Err, refl, sym, ap, subst, ◌∙◌, arith, inl, inr}
 use Rattle.std.proofs.lemmas.Bool.{eqb-true, ne_eqb}
-use Rattle.byteorder.specs.Endian.{twos_complement}
-use Rattle.bk_codec.specs.Reading.{◌>>=◌, giving, made_of, byte_at, bytes_at, number_at, many_at}
+use Rattle.bk_codec.specs.Reading.{◌>>=◌, giving, made_of, byte_at, number_at, many_at}
 use Rattle.bk_codec.specs.Spelling.{IsBytes, Then, SpellsMany, SpellsNumber}
 use Rattle.bk_codec.proofs.Steps.{bind_ok, chosen, ok_is}
 use Rattle.bk_codec.proofs.Agreement.{Agrees, Takes, Takes-weaker, byte_agrees, number_agrees}
@@ -66,7 +65,7 @@ unfolding name_at
 name_agrees end levels =
     agrees_as
     (agrees_two (tag_at end levels) (IsOpenTag levels) (λ bytes tag rest. cond (is_atom_tag tag) (atom_at (end - length bytes) tag rest) (Err (Tag tag (end - length bytes)))) AtomBehind
-      (tag_agrees end levels) (λ bytes tag. atom_agrees (end - length bytes) tag (Tag tag (end - length bytes))))
+    (tag_agrees end levels) (λ bytes tag. atom_agrees (end - length bytes) tag (Tag tag (end - length bytes))))
     (name_to levels) (name_from levels)
 
 -- an arity behind its tag
@@ -76,10 +75,10 @@ ArityBehind tag arity text = (tag ≡ 97) × (text ≡ arity ∷ [])
 arity_behind : (tag : ℕ) (e : TermRefusal) → Agrees (λ bytes. cond (tag == 97) (byte_at Cut bytes) (Err e)) (ArityBehind tag)
 arity_behind tag e = record {
   takes = λ bytes n rest fits read.
-    elim (chosen (tag == 97) (byte_at Cut bytes) _ _ read) [
-      | inl a ↦ Takes-weaker (λ text is. (eqb-true tag 97 a.0, is)) ((byte_agrees Cut).takes bytes n rest fits a.1)
-      | inr a ↦ absurd cc
-    ];
+      elim (chosen (tag == 97) (byte_at Cut bytes) _ _ read) [
+        | inl a ↦ Takes-weaker (λ text is. (eqb-true tag 97 a.0, is)) ((byte_agrees Cut).takes bytes n rest fits a.1)
+        | inr a ↦ absurd cc
+      ];
   again = λ n text rest is. rw (is.0, is.1) refl;
 }
 
@@ -87,9 +86,10 @@ abbrev IsArity : ℕ → ℕ → List ℕ → Type 0
 IsArity levels arity text = (1 ≤ levels) × (text ≡ 97 ∷ arity ∷ [])
 
 arity_to : (levels arity : ℕ) (text : List ℕ) → Two (IsOpenTag levels) ArityBehind arity text → IsArity levels arity text
-arity_to levels arity text (tag, is) =
-    (is.front_is.0,
-      is.joined ∙ ap (λ (u : List ℕ). u ++ is.back) is.front_is.1 ∙ ap (λ (u : List ℕ). tag ∷ u) is.back_is.1 ∙ ap (λ (n : ℕ). n ∷ arity ∷ []) is.back_is.0)
+arity_to levels arity text (tag, is) = (
+  is.front_is.0,
+  is.joined ∙ ap (λ (u : List ℕ). u ++ is.back) is.front_is.1 ∙ ap (λ (u : List ℕ). tag ∷ u) is.back_is.1 ∙ ap (λ (n : ℕ). n ∷ arity ∷ []) is.back_is.0,
+)
 
 arity_from : (levels arity : ℕ) (text : List ℕ) → IsArity levels arity text → Two (IsOpenTag levels) ArityBehind arity text
 arity_from levels arity text (deep, is) =
@@ -100,7 +100,7 @@ unfolding arity_at
 arity_agrees end levels =
     agrees_as
     (agrees_two (tag_at end levels) (IsOpenTag levels) (λ bytes tag rest. cond (tag == 97) (byte_at Cut rest) (Err (Tag tag (end - length bytes)))) ArityBehind
-      (tag_agrees end levels) (λ bytes tag. arity_behind tag (Tag tag (end - length bytes))))
+    (tag_agrees end levels) (λ bytes tag. arity_behind tag (Tag tag (end - length bytes))))
     (arity_to levels) (arity_from levels)
 
 -- an external function behind its tag
@@ -127,24 +127,32 @@ function_agrees end levels m =
 export_to : (levels : ℕ) (t : Term) (text : List ℕ) → Two (NameSpelled levels) (Function levels) t text → IsExport levels t text
 export_to levels t text (m, is) =
     let f = is.back_is in
-    let a = f.1.back_is in
-    (m, f.0, a.0, is.front_is.0, a.1, record {
-      front = is.front;
-      back = is.back;
-      front_is = is.front_is.1;
-      back_is = record { front = f.1.front; back = f.1.back; front_is = f.1.front_is.1; back_is = a.2.1; joined = f.1.joined };
-      joined = is.joined;
-    })
+    let a = f.1.back_is in (
+      m,
+      f.0,
+      a.0,
+      is.front_is.0,
+      a.1,
+      record {
+        front = is.front;
+        back = is.back;
+        front_is = is.front_is.1;
+        back_is = record { front = f.1.front; back = f.1.back; front_is = f.1.front_is.1; back_is = a.2.1; joined = f.1.joined };
+        joined = is.joined;
+      },
+    )
 
 export_from : (levels : ℕ) (t : Term) (text : List ℕ) → IsExport levels t text → Two (NameSpelled levels) (Function levels) t text
-export_from levels t text (m, f, arity, deep, made, is) =
-    (m, record {
-      front = is.front;
-      back = is.back;
-      front_is = (deep, is.front_is);
-      back_is = (f, record { front = is.back_is.front; back = is.back_is.back; front_is = (deep, is.back_is.front_is); back_is = (arity, made, (deep, is.back_is.back_is)); joined = is.back_is.joined });
-      joined = is.joined;
-    })
+export_from levels t text (m, f, arity, deep, made, is) = (
+  m,
+  record {
+    front = is.front;
+    back = is.back;
+    front_is = (deep, is.front_is);
+    back_is = (f, record { front = is.back_is.front; back = is.back_is.back; front_is = (deep, is.back_is.front_is); back_is = (arity, made, (deep, is.back_is.back_is)); joined = is.back_is.joined });
+    joined = is.joined;
+  },
+)
 
 pub export_agrees : (end levels : ℕ) → Agrees (export_at end levels) (IsExport levels)
 unfolding export_at
@@ -163,14 +171,17 @@ module _ (inner : List ℕ → Result (Term × List ℕ) TermRefusal) (Inner : T
   counted_to : {A : Type 0} (make : List A → Term) (R : A → List ℕ → Type 0) (k : ℕ) (t : Term) (text : List ℕ)
       → Two (SpellsNumber k) (λ n. Made make (Counted R n)) t text → Made make (SpellsCountedIn k R) t text
   counted_to make R k t text (n, is) =
-      let xs = is.back_is in
-      (xs.0, xs.1, record {
-        front = is.front;
-        back = is.back;
-        front_is = subst (λ (m : ℕ). SpellsNumber k m is.front) (sym xs.2.0) is.front_is;
-        back_is = xs.2.1;
-        joined = is.joined;
-      })
+      let xs = is.back_is in (
+        xs.0,
+        xs.1,
+        record {
+          front = is.front;
+          back = is.back;
+          front_is = subst (λ (m : ℕ). SpellsNumber k m is.front) (sym xs.2.0) is.front_is;
+          back_is = xs.2.1;
+          joined = is.joined;
+        },
+      )
 
   counted_from : {A : Type 0} (make : List A → Term) (R : A → List ℕ → Type 0) (k : ℕ) (t : Term) (text : List ℕ)
       → Made make (SpellsCountedIn k R) t text → Two (SpellsNumber k) (λ n. Made make (Counted R n)) t text
@@ -181,7 +192,7 @@ module _ (inner : List ℕ → Result (Term × List ℕ) TermRefusal) (Inner : T
   tuple_agrees k =
       agrees_as
       (agrees_two (number_at Cut k) (SpellsNumber k) (λ bytes n rest. made_of terms.Tuple (many_at inner n rest)) (λ n. Made terms.Tuple (Counted Inner n))
-        (number_agrees Cut k) (λ bytes n. agrees_made terms.Tuple (many_at inner n) (Counted Inner n) (agrees_many agrees n)))
+      (number_agrees Cut k) (λ bytes n. agrees_made terms.Tuple (many_at inner n) (Counted Inner n) (agrees_many agrees n)))
       (counted_to terms.Tuple Inner k) (counted_from terms.Tuple Inner k)
 
   -- a key and its value
@@ -198,14 +209,14 @@ module _ (inner : List ℕ → Result (Term × List ℕ) TermRefusal) (Inner : T
   pair_agrees =
       agrees_as
       (agrees_two inner Inner (λ bytes key rest. made_of (λ value. (key, value)) (inner rest)) (λ key. Made (λ value. (key, value)) Inner)
-        agrees (λ bytes key. agrees_made (λ value. (key, value)) inner Inner agrees))
+      agrees (λ bytes key. agrees_made (λ value. (key, value)) inner Inner agrees))
       pair_to pair_from
 
   pub map_agrees : Agrees (map_at inner) (Made terms.Map (SpellsCountedIn 4 (SpellsPair Inner)))
   map_agrees =
       agrees_as
       (agrees_two (number_at Cut 4) (SpellsNumber 4) (λ bytes n rest. made_of terms.Map (many_at (pair_at inner) n rest)) (λ n. Made terms.Map (Counted (SpellsPair Inner) n))
-        (number_agrees Cut 4) (λ bytes n. agrees_made terms.Map (many_at (pair_at inner) n) (Counted (SpellsPair Inner) n) (agrees_many pair_agrees n)))
+      (number_agrees Cut 4) (λ bytes n. agrees_made terms.Map (many_at (pair_at inner) n) (Counted (SpellsPair Inner) n) (agrees_many pair_agrees n)))
       (counted_to terms.Map (SpellsPair Inner) 4) (counted_from terms.Map (SpellsPair Inner) 4)
 
   -- items and a tail
@@ -223,28 +234,34 @@ module _ (inner : List ℕ → Result (Term × List ℕ) TermRefusal) (Inner : T
   list_to : (t : Term) (text : List ℕ) → Two (SpellsNumber 4) ItemsAndTail t text → IsList t text
   list_to t text (n, is) =
       let items = is.back_is in
-      let tail = items.1.back_is in
-      (items.0, tail.0, tail.1, record {
-        front = is.front;
-        back = is.back;
-        front_is = subst (λ (m : ℕ). SpellsNumber 4 m is.front) (sym items.1.front_is.0) is.front_is;
-        back_is = record { front = items.1.front; back = items.1.back; front_is = items.1.front_is.1; back_is = tail.2; joined = items.1.joined };
-        joined = is.joined;
-      })
+      let tail = items.1.back_is in (
+        items.0,
+        tail.0,
+        tail.1,
+        record {
+          front = is.front;
+          back = is.back;
+          front_is = subst (λ (m : ℕ). SpellsNumber 4 m is.front) (sym items.1.front_is.0) is.front_is;
+          back_is = record { front = items.1.front; back = items.1.back; front_is = items.1.front_is.1; back_is = tail.2; joined = items.1.joined };
+          joined = is.joined;
+        },
+      )
 
   list_from : (t : Term) (text : List ℕ) → IsList t text → Two (SpellsNumber 4) ItemsAndTail t text
-  list_from t text (items, tail, made, is) =
-      (length items, record {
-        front = is.front;
-        back = is.back;
-        front_is = is.front_is;
-        back_is = (items, record { front = is.back_is.front; back = is.back_is.back; front_is = (refl, is.back_is.front_is); back_is = (tail, made, is.back_is.back_is); joined = is.back_is.joined });
-        joined = is.joined;
-      })
+  list_from t text (items, tail, made, is) = (
+    length items,
+    record {
+      front = is.front;
+      back = is.back;
+      front_is = is.front_is;
+      back_is = (items, record { front = is.back_is.front; back = is.back_is.back; front_is = (refl, is.back_is.front_is); back_is = (tail, made, is.back_is.back_is); joined = is.back_is.joined });
+      joined = is.joined;
+    },
+  )
 
   pub list_agrees : Agrees (list_at inner) IsList
   list_agrees =
       agrees_as
       (agrees_two (number_at Cut 4) (SpellsNumber 4) (λ bytes n rest. many_at inner n rest >>= λ items. made_of (λ tail. terms.List items.0 tail) (inner items.1)) ItemsAndTail
-        (number_agrees Cut 4) (λ bytes n. items_and_tail n))
+      (number_agrees Cut 4) (λ bytes n. items_and_tail n))
       list_to list_from

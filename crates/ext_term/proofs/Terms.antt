@@ -1,11 +1,11 @@
 -- A term is read where it is spelled, and no spelling begins another.
-use Rattle.std.proofs.Common.{◌≡◌, ◌≤◌, ◌-◌, ℕ, zero, suc, Bool, true, false, cond, ◌&&◌, ◌||◌, ◌==◌, ltb, leb, List, [], ◌∷◌, ◌++◌, length, drop, map, Result, Ok, Err, IfOk, ◌⊎◌, refl, sym, ap, subst, ◌∙◌, arith, inl, inr}
+use Rattle.std.proofs.Common.{◌≡◌, ◌≤◌, ◌-◌, ℕ, zero, suc, Bool, true, false, cond, ◌&&◌, ◌==◌, leb, List, [], ◌∷◌, ◌++◌, length, drop, map, Result, Ok, Err, IfOk, ◌⊎◌, refl, sym, ap, subst, ◌∙◌, inl, inr}
 use Rattle.std.proofs.lemmas.Bool.{eqb-true, leb-true, le-leb}
 use Rattle.std.specs.Str.{encode_utf8_all}
 use Rattle.std.proofs.lemmas.List.{append-nil, append_cancel_right}
 use Rattle.byteorder.specs.Endian.{twos_complement}
-use Rattle.bk_codec.specs.Reading.{◌>>=◌, giving, made_of, byte_at, bytes_at, number_at, many_at, alone, GivesAll}
-use Rattle.bk_codec.specs.Spelling.{IsBytes, Then, SpellsMany, SpellsNumber}
+use Rattle.bk_codec.specs.Reading.{◌>>=◌, giving, made_of, byte_at, number_at, alone, GivesAll}
+use Rattle.bk_codec.specs.Spelling.{IsBytes, SpellsNumber}
 use Rattle.bk_codec.proofs.Steps.{bind_ok, made_ok, chosen, ok_is}
 use Rattle.bk_codec.proofs.Agreement.{Agrees, Takes, Takes-weaker, byte_agrees, number_agrees, one_form}
 use Rattle.ext_term.specs.declared.term.Term.{Term}
@@ -13,8 +13,8 @@ use Rattle.ext_term.specs.declared.term.Term.TheVariants as terms
 use Rattle.ext_term.specs.declared.refusal.TermRefusal.{TermRefusal}
 use Rattle.ext_term.specs.declared.refusal.TermRefusal.TheVariants.{Cut, Tag, Depth, Rest, NoMemory}
 use Rattle.ext_term.specs.Integer.{int_of, big_of}
-use Rattle.ext_term.specs.Spelling.{SpellsBytes, SpellsBig, SpellsCountedIn, SpellsAtom, latin_100, latin_115, utf8_118, utf8_119, SpellsPair, byte_term, SpellsTagged, small_97, signed_98, big_110, big_111, atom, tuple_104, tuple_105, nil_106, string_107, list_108, binary_109, bits_77, export_113, map_116, SpellsTerm, SpellsFile}
-use Rattle.ext_term.specs.Reading.{sized_at, big_at, integer_at, is_atom_tag, atom_at, string_at, has_bits, bits_at, flat_at, tuple_at, list_at, map_at, export_at, nested_at, is_integer_tag, is_flat_tag, is_nested_tag, tagged_at, term_at, file_at, term_of}
+use Rattle.ext_term.specs.Spelling.{SpellsBytes, SpellsBig, SpellsCountedIn, latin_100, latin_115, utf8_118, utf8_119, SpellsPair, byte_term, SpellsTagged, small_97, signed_98, big_110, big_111, atom, tuple_104, tuple_105, nil_106, string_107, list_108, binary_109, bits_77, export_113, map_116, SpellsTerm, SpellsFile}
+use Rattle.ext_term.specs.Reading.{sized_at, big_at, integer_at, is_atom_tag, atom_at, string_at, has_bits, flat_at, tuple_at, list_at, export_at, nested_at, is_integer_tag, is_flat_tag, is_nested_tag, tagged_at, term_at, file_at, term_of}
 use Rattle.ext_term.proofs.Agreeing.{Two, Made, agrees_as, agrees_two, agrees_made, agrees_bytes}
 use Rattle.ext_term.proofs.Flat.{last_of_four, last_of_five, IsBig, big_agrees, latin_agrees, utf8_agrees, AtomBehind, atom_agrees, IsBits, bits_agree, string_agrees}
 use Rattle.ext_term.proofs.Nested.{atom_parts, IsExport, export_agrees, tuple_agrees, map_agrees, IsList, list_agrees}
@@ -70,16 +70,16 @@ module _ (end levels : ℕ) (inner : List ℕ → Result (Term × List ℕ) Term
       elim (chosen (tag == 97) (made_of byte_term (number_at Cut 1 bytes)) _ _ e) [
         | inl a ↦ retag tag 97 t bytes rest a.0 (made_take 97 byte_term (SpellsNumber 1) small_97 t bytes rest (small_agrees.takes bytes t rest fits a.1))
         | inr a ↦
-          elim (chosen (tag == 98) (made_of (λ n. int_of (twos_complement 4 n)) (number_at Cut 4 bytes)) _ _ a.1) [
-            | inl b ↦ retag tag 98 t bytes rest b.0 (made_take 98 (λ n. int_of (twos_complement 4 n)) (SpellsNumber 4) signed_98 t bytes rest (signed_agrees.takes bytes t rest fits b.1))
-            | inr b ↦
-              elim (chosen (tag == 110) (big_at 1 bytes) _ _ b.1) [
-                | inl c ↦ retag tag 110 t bytes rest c.0 (big_take 110 1 big_110 t bytes rest ((big_agrees 1).takes bytes t rest fits c.1))
-                | inr c ↦
-                  let last = last_of_four (tag == 97) (tag == 98) (tag == 110) (tag == 111) one a.0 b.0 c.0 in
-                  retag tag 111 t bytes rest last (big_take 111 4 big_111 t bytes rest ((big_agrees 4).takes bytes t rest fits c.1))
-              ]
-          ]
+            elim (chosen (tag == 98) (made_of (λ n. int_of (twos_complement 4 n)) (number_at Cut 4 bytes)) _ _ a.1) [
+              | inl b ↦ retag tag 98 t bytes rest b.0 (made_take 98 (λ n. int_of (twos_complement 4 n)) (SpellsNumber 4) signed_98 t bytes rest (signed_agrees.takes bytes t rest fits b.1))
+              | inr b ↦
+                  elim (chosen (tag == 110) (big_at 1 bytes) _ _ b.1) [
+                    | inl c ↦ retag tag 110 t bytes rest c.0 (big_take 110 1 big_110 t bytes rest ((big_agrees 1).takes bytes t rest fits c.1))
+                    | inr c ↦
+                        let last = last_of_four (tag == 97) (tag == 98) (tag == 110) (tag == 111) one a.0 b.0 c.0 in
+                        retag tag 111 t bytes rest last (big_take 111 4 big_111 t bytes rest ((big_agrees 4).takes bytes t rest fits c.1))
+                  ]
+            ]
       ]
 
   -- ---- the empty list, bytes and bits
@@ -103,16 +103,16 @@ module _ (end levels : ℕ) (inner : List ℕ → Result (Term × List ℕ) Term
       elim (chosen (tag == 106) (giving terms.Nil bytes) _ _ e) [
         | inl a ↦ retag tag 106 t bytes rest a.0 (nil_take bytes t rest fits a.1)
         | inr a ↦
-          elim (chosen (tag == 107) (string_at bytes) _ _ a.1) [
-            | inl b ↦ retag tag 107 t bytes rest b.0 (made_take 107 (λ s. terms.List (map byte_term s) terms.Nil) (SpellsBytes 2) string_107 t bytes rest (string_agrees.takes bytes t rest fits b.1))
-            | inr b ↦
-              elim (chosen (tag == 109) (made_of terms.Binary (sized_at 4 bytes)) _ _ b.1) [
-                | inl c ↦ retag tag 109 t bytes rest c.0 (made_take 109 terms.Binary (SpellsBytes 4) binary_109 t bytes rest (binary_agrees.takes bytes t rest fits c.1))
-                | inr c ↦
-                  let last = last_of_four (tag == 106) (tag == 107) (tag == 109) (tag == 77) one a.0 b.0 c.0 in
-                  retag tag 77 t bytes rest last (Takes-weaker (λ text is. bits_form t text is) ((bits_agree offset).takes bytes t rest fits c.1))
-              ]
-          ]
+            elim (chosen (tag == 107) (string_at bytes) _ _ a.1) [
+              | inl b ↦ retag tag 107 t bytes rest b.0 (made_take 107 (λ s. terms.List (map byte_term s) terms.Nil) (SpellsBytes 2) string_107 t bytes rest (string_agrees.takes bytes t rest fits b.1))
+              | inr b ↦
+                  elim (chosen (tag == 109) (made_of terms.Binary (sized_at 4 bytes)) _ _ b.1) [
+                    | inl c ↦ retag tag 109 t bytes rest c.0 (made_take 109 terms.Binary (SpellsBytes 4) binary_109 t bytes rest (binary_agrees.takes bytes t rest fits c.1))
+                    | inr c ↦
+                        let last = last_of_four (tag == 106) (tag == 107) (tag == 109) (tag == 77) one a.0 b.0 c.0 in
+                        retag tag 77 t bytes rest last (Takes-weaker (λ text is. bits_form t text is) ((bits_agree offset).takes bytes t rest fits c.1))
+                  ]
+            ]
       ]
 
   -- ---- terms with terms in them
@@ -129,20 +129,20 @@ module _ (end levels : ℕ) (inner : List ℕ → Result (Term × List ℕ) Term
       elim (chosen (tag == 104) (tuple_at inner 1 bytes) _ _ e) [
         | inl a ↦ retag tag 104 t bytes rest a.0 (made_take 104 terms.Tuple (SpellsCountedIn 1 Inner) tuple_104 t bytes rest ((tuple_agrees inner Inner agrees 1).takes bytes t rest fits a.1))
         | inr a ↦
-          elim (chosen (tag == 105) (tuple_at inner 4 bytes) _ _ a.1) [
-            | inl b ↦ retag tag 105 t bytes rest b.0 (made_take 105 terms.Tuple (SpellsCountedIn 4 Inner) tuple_105 t bytes rest ((tuple_agrees inner Inner agrees 4).takes bytes t rest fits b.1))
-            | inr b ↦
-              elim (chosen (tag == 108) (list_at inner bytes) _ _ b.1) [
-                | inl c ↦ retag tag 108 t bytes rest c.0 (Takes-weaker (λ text is. list_form t text is) ((list_agrees inner Inner agrees).takes bytes t rest fits c.1))
-                | inr c ↦
-                  elim (chosen (tag == 113) (export_at end levels bytes) _ _ c.1) [
-                    | inl d ↦ retag tag 113 t bytes rest d.0 (Takes-weaker (λ text is. export_form t text is) ((export_agrees end levels).takes bytes t rest fits d.1))
-                    | inr d ↦
-                      let last = last_of_five (tag == 104) (tag == 105) (tag == 108) (tag == 113) (tag == 116) one a.0 b.0 c.0 d.0 in
-                      retag tag 116 t bytes rest last (made_take 116 terms.Map (SpellsCountedIn 4 (SpellsPair Inner)) map_116 t bytes rest ((map_agrees inner Inner agrees).takes bytes t rest fits d.1))
+            elim (chosen (tag == 105) (tuple_at inner 4 bytes) _ _ a.1) [
+              | inl b ↦ retag tag 105 t bytes rest b.0 (made_take 105 terms.Tuple (SpellsCountedIn 4 Inner) tuple_105 t bytes rest ((tuple_agrees inner Inner agrees 4).takes bytes t rest fits b.1))
+              | inr b ↦
+                  elim (chosen (tag == 108) (list_at inner bytes) _ _ b.1) [
+                    | inl c ↦ retag tag 108 t bytes rest c.0 (Takes-weaker (λ text is. list_form t text is) ((list_agrees inner Inner agrees).takes bytes t rest fits c.1))
+                    | inr c ↦
+                        elim (chosen (tag == 113) (export_at end levels bytes) _ _ c.1) [
+                          | inl d ↦ retag tag 113 t bytes rest d.0 (Takes-weaker (λ text is. export_form t text is) ((export_agrees end levels).takes bytes t rest fits d.1))
+                          | inr d ↦
+                              let last = last_of_five (tag == 104) (tag == 105) (tag == 108) (tag == 113) (tag == 116) one a.0 b.0 c.0 d.0 in
+                              retag tag 116 t bytes rest last (made_take 116 terms.Map (SpellsCountedIn 4 (SpellsPair Inner)) map_116 t bytes rest ((map_agrees inner Inner agrees).takes bytes t rest fits d.1))
+                        ]
                   ]
-              ]
-          ]
+            ]
       ]
 
   -- ---- all tags
@@ -153,22 +153,22 @@ module _ (end levels : ℕ) (inner : List ℕ → Result (Term × List ℕ) Term
       elim (chosen (is_integer_tag tag) (integer_at tag bytes) _ _ e) [
         | inl a ↦ integer_take tag a.0 bytes t rest fits a.1
         | inr a ↦
-          elim (chosen (is_atom_tag tag) (made_of terms.Atom (atom_at offset tag bytes)) _ _ a.1) [
-            | inl b ↦
-              let m = made_ok terms.Atom (atom_at offset tag bytes) t rest b.1 in
-              let read : cond (is_atom_tag tag) (atom_at offset tag bytes) (Err Cut) ≡ Ok (m.0, rest) = rw b.0 m.1 in
-              subst (λ (u : Term). Takes (Behind tag u) bytes rest) m.2
-              (Takes-weaker (λ text is. atom m.0 (tag ∷ text) is) ((atom_agrees offset tag Cut).takes bytes m.0 rest fits read))
-            | inr b ↦
-              elim (chosen (is_flat_tag tag) (flat_at offset tag bytes) _ _ b.1) [
-                | inl c ↦ flat_take offset tag c.0 bytes t rest fits c.1
-                | inr c ↦
-                  elim (chosen (is_nested_tag tag) (nested_at end levels inner tag bytes) _ _ c.1) [
-                    | inl d ↦ nested_take tag d.0 bytes t rest fits d.1
-                    | inr d ↦ absurd cc
+            elim (chosen (is_atom_tag tag) (made_of terms.Atom (atom_at offset tag bytes)) _ _ a.1) [
+              | inl b ↦
+                  let m = made_ok terms.Atom (atom_at offset tag bytes) t rest b.1 in
+                  let read : cond (is_atom_tag tag) (atom_at offset tag bytes) (Err Cut) ≡ Ok (m.0, rest) = rw b.0 m.1 in
+                  subst (λ (u : Term). Takes (Behind tag u) bytes rest) m.2
+                  (Takes-weaker (λ text is. atom m.0 (tag ∷ text) is) ((atom_agrees offset tag Cut).takes bytes m.0 rest fits read))
+              | inr b ↦
+                  elim (chosen (is_flat_tag tag) (flat_at offset tag bytes) _ _ b.1) [
+                    | inl c ↦ flat_take offset tag c.0 bytes t rest fits c.1
+                    | inr c ↦
+                        elim (chosen (is_nested_tag tag) (nested_at end levels inner tag bytes) _ _ c.1) [
+                          | inl d ↦ nested_take tag d.0 bytes t rest fits d.1
+                          | inr d ↦ absurd cc
+                        ]
                   ]
-              ]
-          ]
+            ]
       ]
 
   -- no tag of an atom is one of an integer
@@ -232,7 +232,7 @@ module _ (end levels : ℕ) (inner : List ℕ → Result (Term × List ℕ) Term
   one_agrees =
       agrees_as
       (agrees_two (byte_at Cut) (λ tag u. u ≡ tag ∷ []) (λ bytes tag rest. tagged_at end levels inner (end - length bytes) tag rest) Behind
-        (byte_agrees Cut) (λ bytes tag. tagged_agrees (end - length bytes) tag))
+      (byte_agrees Cut) (λ bytes tag. tagged_agrees (end - length bytes) tag))
       tag_to tag_from
 
 -- ---- terms, by how many may stand in one another

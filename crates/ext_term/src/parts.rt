@@ -148,7 +148,12 @@ fn utf8(alloc: Global, bytes: &[u8], at: usize) -> Result<Text, TermRefusal>
 
 /// The name behind one of the tags 100, 115, 118 and 119, which is at this offset.
 #[tactic(auto, unfolding(crate::specs::Reading::atom_at))]
-pub(crate) fn atom(alloc: Global, cur: &mut Cursor<'_>, at: usize, tag: u8) -> Result<Text, TermRefusal>
+pub(crate) fn atom(
+    alloc: Global,
+    cur: &mut Cursor<'_>,
+    at: usize,
+    tag: u8,
+) -> Result<Text, TermRefusal>
     ensures read { Gives refusals.NoMemory (λ t. t) cur.new.rest result (atom_at at tag cur.old.rest) }
     ensures end { end_of cur.new ≡ end_of cur.old }
 {
@@ -214,7 +219,12 @@ fn bits(alloc: Global, cur: &mut Cursor<'_>, at: usize) -> Result<Term, TermRefu
 
 /// What is behind one of the tags 106, 107, 109 and 77, which is at this offset.
 #[tactic(auto, unfolding(crate::specs::Reading::flat_at))]
-pub(crate) fn flat(alloc: Global, cur: &mut Cursor<'_>, at: usize, tag: u8) -> Result<Term, TermRefusal>
+pub(crate) fn flat(
+    alloc: Global,
+    cur: &mut Cursor<'_>,
+    at: usize,
+    tag: u8,
+) -> Result<Term, TermRefusal>
     ensures read { Gives refusals.NoMemory (λ t. t) cur.new.rest result (flat_at at tag cur.old.rest) }
     ensures end { end_of cur.new ≡ end_of cur.old }
 {

@@ -3,7 +3,7 @@
 ghost use Rattle.std.specs.Prelude.{◌≡◌};
 ghost use Rattle.ext_term.specs.declared.refusal.TermRefusal.TheVariants as refusals;
 
-use bk_base::{NoMemory};
+use bk_base::NoMemory;
 use std::alloc::AllocError;
 use thiserror::Error;
 

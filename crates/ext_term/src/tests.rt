@@ -84,7 +84,10 @@ fn terms_are_shown(rt: HostRuntime) -> Result<(), Fail> {
         ),
         (Term::Tuple(terms(alloc, pair)?), b"{a,'B'}"),
         (Term::Nil, b"[]"),
-        (list(alloc, [natural(104), natural(105)], Term::Nil)?, b"[104,105]"),
+        (
+            list(alloc, [natural(104), natural(105)], Term::Nil)?,
+            b"[104,105]",
+        ),
         (list(alloc, [natural(1)], natural(2))?, b"[1|2]"),
         (list(alloc, [], atom(alloc, b"x")?)?, b"[|x]"),
         (list(alloc, [natural(1)], two)?, b"[1|[2]]"),

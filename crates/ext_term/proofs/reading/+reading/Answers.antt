@@ -1,7 +1,7 @@
 use Rattle.std.proofs.Common.{rules, ◌≡◌, ◌∙◌, subst, ℕ, Ok}
 use Rattle.std.proofs.lemmas.Result.{err_from_is_err_and}
 use Rattle.bk_codec.specs.Reading.{many_at, Fails}
-use Rattle.bk_codec.proofs.Loop.{goes_on, ends, is_done}
+use Rattle.bk_codec.proofs.Loop.{goes_on, ends}
 use Rattle.ext_term.specs.declared.refusal.TermRefusal.TheVariants.{NoMemory}
 use Rattle.ext_term.specs.Reading.{end_of, pair_at, term_at}
 use Rattle.ext_term.proofs.Levels.{term_at-is}
