@@ -6,6 +6,7 @@ mod name;
 mod parts;
 mod reading;
 mod refusal;
+mod tags;
 mod term;
 mod text;
 mod writing;

@@ -10,6 +10,10 @@ ghost use Rattle.ext_term.specs.Reading.{end_of, sized_at, big_at, integer_at, l
 ghost use Rattle.ext_term.specs.declared.refusal.TermRefusal.TheVariants as refusals;
 
 use crate::refusal::TermRefusal;
+use crate::tags::{
+    BINARY, INTEGER, LONG_ATOM, LONG_LATIN_ATOM, NIL, SHORT_LATIN_ATOM, SMALL_BIG, SMALL_INTEGER,
+    STRING,
+};
 use crate::term::{Term, TermList};
 use bk_base::{ByteList, Cursor, NoMemory, Text, TextFault};
 use byteorder::{BigEndian, ByteOrder, LittleEndian};
@@ -100,25 +104,25 @@ fn big(alloc: Global, cur: &mut Cursor<'_>, n: usize) -> Result<Term, TermRefusa
     Ok(big_integer(alloc, sign, mag)?)
 }
 
-/// The integer behind one of the tags 97, 98, 110 and 111.
+/// The integer behind the tag of one.
 #[tactic(auto, unfolding(crate::specs::Reading::integer_at))]
 pub(crate) fn integer(alloc: Global, cur: &mut Cursor<'_>, tag: u8) -> Result<Term, TermRefusal>
     ensures read { Gives refusals.NoMemory (λ t. t) cur.new.rest result (integer_at tag cur.old.rest) }
     ensures end { end_of cur.new ≡ end_of cur.old }
 {
     match tag {
-        97 => {
+        SMALL_INTEGER => {
             let mag = number(cur, 1)?;
             Ok(Term::Int {
                 neg: false,
                 mag: u128::from(mag),
             })
         }
-        98 => {
+        INTEGER => {
             let z = signed(cur)?;
             Ok(int(z))
         }
-        110 => big(alloc, cur, 1),
+        SMALL_BIG => big(alloc, cur, 1),
         _ => big(alloc, cur, 4),
     }
 }
@@ -146,7 +150,7 @@ fn utf8(alloc: Global, bytes: &[u8], at: usize) -> Result<Text, TermRefusal>
     }
 }
 
-/// The name behind one of the tags 100, 115, 118 and 119, which is at this offset.
+/// The name behind the tag of an atom, which is at this offset.
 #[tactic(auto, unfolding(crate::specs::Reading::atom_at))]
 pub(crate) fn atom(
     alloc: Global,
@@ -158,15 +162,15 @@ pub(crate) fn atom(
     ensures end { end_of cur.new ≡ end_of cur.old }
 {
     match tag {
-        100 => {
+        LONG_LATIN_ATOM => {
             let bytes = sized(cur, 2)?;
             Ok(latin(alloc, bytes)?)
         }
-        115 => {
+        SHORT_LATIN_ATOM => {
             let bytes = sized(cur, 1)?;
             Ok(latin(alloc, bytes)?)
         }
-        118 => {
+        LONG_ATOM => {
             let bytes = sized(cur, 2)?;
             utf8(alloc, bytes, at)
         }
@@ -217,7 +221,7 @@ fn bits(alloc: Global, cur: &mut Cursor<'_>, at: usize) -> Result<Term, TermRefu
     Ok(Term::Bits { bytes, last })
 }
 
-/// What is behind one of the tags 106, 107, 109 and 77, which is at this offset.
+/// The empty list, a list of bytes, a binary or a bit string behind its tag, which is at this offset.
 #[tactic(auto, unfolding(crate::specs::Reading::flat_at))]
 pub(crate) fn flat(
     alloc: Global,
@@ -229,9 +233,9 @@ pub(crate) fn flat(
     ensures end { end_of cur.new ≡ end_of cur.old }
 {
     match tag {
-        106 => Ok(Term::Nil),
-        107 => string(alloc, cur),
-        109 => {
+        NIL => Ok(Term::Nil),
+        STRING => string(alloc, cur),
+        BINARY => {
             let bytes = sized(cur, 4)?;
             Ok(Term::Binary(ByteList::from_slice(alloc, bytes)?))
         }

@@ -8,13 +8,14 @@ ghost use Rattle.ext_term.specs.declared.refusal.TermRefusal.TheVariants as refu
 
 use crate::parts::{atom, flat, integer, number};
 use crate::refusal::TermRefusal;
+use crate::tags::{
+    BINARY, BITS, EXPORT, INTEGER, LARGE_BIG, LARGE_TUPLE, LIST, LONG_ATOM, LONG_LATIN_ATOM, MAP,
+    NIL, SHORT_ATOM, SHORT_LATIN_ATOM, SMALL_BIG, SMALL_INTEGER, SMALL_TUPLE, STRING, VERSION,
+};
 use crate::term::{Term, TermList, TermPairList};
 use bk_base::{Cursor, Text};
 use sqlite_items::Boxed;
 use std::alloc::Global;
-
-// The byte before each term in a file.
-const VERSION: u8 = 131;
 
 // How many terms may stand in one another.
 const DEPTH: usize = 256;
@@ -43,7 +44,7 @@ fn name(alloc: Global, cur: &mut Cursor<'_>, levels: usize) -> Result<Text, Term
     let at = cur.at();
     let tag = tag(cur, levels)?;
     match tag {
-        100 | 115 | 118 | 119 => atom(alloc, cur, at, tag),
+        LONG_LATIN_ATOM | SHORT_LATIN_ATOM | LONG_ATOM | SHORT_ATOM => atom(alloc, cur, at, tag),
         _ => Err(TermRefusal::Tag { tag, at }),
     }
 }
@@ -56,7 +57,7 @@ fn arity(cur: &mut Cursor<'_>, levels: usize) -> Result<u8, TermRefusal>
 {
     let at = cur.at();
     let tag = tag(cur, levels)?;
-    if tag != 97 {
+    if tag != SMALL_INTEGER {
         return Err(TermRefusal::Tag { tag, at });
     }
     Ok(cur.byte().ok_or(TermRefusal::Cut)?)
@@ -131,21 +132,21 @@ fn nested(alloc: Global, cur: &mut Cursor<'_>, levels: usize, tag: u8) -> Result
     ensures end { end_of cur.new ≡ end_of cur.old }
 {
     match tag {
-        104 => {
+        SMALL_TUPLE => {
             let count = number(cur, 1)?;
             Ok(Term::Tuple(terms(alloc, cur, levels, count)?))
         }
-        105 => {
+        LARGE_TUPLE => {
             let count = number(cur, 4)?;
             Ok(Term::Tuple(terms(alloc, cur, levels, count)?))
         }
-        108 => {
+        LIST => {
             let count = number(cur, 4)?;
             let items = terms(alloc, cur, levels, count)?;
             let tail = term(alloc, cur, levels)?;
             Ok(Term::List(items, Boxed::new(alloc, tail)?))
         }
-        113 => export(alloc, cur, levels),
+        EXPORT => export(alloc, cur, levels),
         _ => {
             let count = number(cur, 4)?;
             Ok(Term::Map(pairs(alloc, cur, levels, count)?))
@@ -167,10 +168,12 @@ fn tagged(
     ensures end { end_of cur.new ≡ end_of cur.old }
 {
     match tag {
-        97 | 98 | 110 | 111 => integer(alloc, cur, tag),
-        100 | 115 | 118 | 119 => Ok(Term::Atom(atom(alloc, cur, at, tag)?)),
-        106 | 107 | 109 | 77 => flat(alloc, cur, at, tag),
-        104 | 105 | 108 | 113 | 116 => nested(alloc, cur, levels, tag),
+        SMALL_INTEGER | INTEGER | SMALL_BIG | LARGE_BIG => integer(alloc, cur, tag),
+        LONG_LATIN_ATOM | SHORT_LATIN_ATOM | LONG_ATOM | SHORT_ATOM => Ok(Term::Atom(atom(
+            alloc, cur, at, tag,
+        )?)),
+        NIL | STRING | BINARY | BITS => flat(alloc, cur, at, tag),
+        SMALL_TUPLE | LARGE_TUPLE | LIST | EXPORT | MAP => nested(alloc, cur, levels, tag),
         _ => Err(TermRefusal::Tag { tag, at }),
     }
 }

@@ -5,43 +5,13 @@ ghost use Rattle.std.specs.List.{flat_map, list_all};
 ghost use Rattle.byteorder.specs.Endian.{big_bytes};
 ghost use Rattle.ext_term.specs.Writing.{IsWritable, CanBeWritten, term_written, spelling, file_spelling, pair_bytes, integer_written, has_32_bits, bits_32, significant, big_bytes_of, atom_bytes, is_string, string_bytes, tuple_head, binary_bytes, bits_bytes, export_bytes};
 
+use crate::tags::{
+    BINARY, BITS, EXPORT, INTEGER, LARGE_BIG, LARGE_TUPLE, LIST, LONG_ATOM, MAP, NIL, SHORT_ATOM,
+    SMALL_BIG, SMALL_INTEGER, SMALL_TUPLE, STRING, VERSION,
+};
 use crate::term::Term;
 use bk_base::{Bytes, NoMemory};
 use std::alloc::Global;
-
-// The first byte of a file that holds a term.
-const VERSION: u8 = 131;
-
-// The tags, by which the spellings of terms begin.
-const BITS: u8 = 77;
-
-const SMALL_INTEGER: u8 = 97;
-
-const INTEGER: u8 = 98;
-
-const SMALL_TUPLE: u8 = 104;
-
-const LARGE_TUPLE: u8 = 105;
-
-const NIL: u8 = 106;
-
-const STRING: u8 = 107;
-
-const LIST: u8 = 108;
-
-const BINARY: u8 = 109;
-
-const SMALL_BIG: u8 = 110;
-
-const LARGE_BIG: u8 = 111;
-
-const EXPORT: u8 = 113;
-
-const MAP: u8 = 116;
-
-const LONG_ATOM: u8 = 118;
-
-const SHORT_ATOM: u8 = 119;
 
 /// The file that holds a term: the version, 131, and one spelling of the term.
 ///
