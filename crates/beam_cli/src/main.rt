@@ -1,6 +1,8 @@
 //! beamkit opens compiled Erlang modules and tells what is in them.
 #![tactic(auto)]
 
+ghost use Rattle.std.specs.Prelude.{◌≡◌, [], ◌∷◌, IfOk};
+
 mod command;
 mod making;
 mod needs;
@@ -30,7 +32,9 @@ use std::rt::Env;
 mod tests;
 
 // A list of the one empty word, which is in no place of the command grammar.
-fn empty_word(alloc: Global) -> Result<WordList, NoMemory> {
+fn empty_word(alloc: Global) -> Result<WordList, NoMemory>
+    ensures { IfOk result (λ words. words ≡ [] ∷ []) }
+{
     let mut words = WordList::new(alloc);
     words.push(Text::from(String::new(alloc)))?;
     Ok(words)
