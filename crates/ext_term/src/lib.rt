@@ -16,7 +16,7 @@ pub use name::name_text;
 pub use reading::read_term;
 pub use refusal::TermRefusal;
 pub use term::{Term, TermList, TermPairList};
-pub use text::{put_term, term_text};
+pub use text::{put_hex, put_term, term_text};
 pub use writing::write_term;
 
 #[cfg(test)]

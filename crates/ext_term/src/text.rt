@@ -124,7 +124,7 @@ fn put_binary(out: &mut Bytes, bytes: &[u8]) -> Result<(), NoMemory>
     ensures { OnOk result (out.new.items ≡ out.old.items ++ (codes "<<" ++ encode_lower bytes.now ++ codes ">>")) }
 {
     out.extend(b"<<")?;
-    put_hex(out, bytes)?;
+    put_hex(bytes, out)?;
     out.extend(b">>")
 }
 
@@ -134,7 +134,7 @@ fn put_bits(out: &mut Bytes, bytes: &[u8], last: u8) -> Result<(), NoMemory>
 {
     let bits = (8 * bytes.len() as u128 + u128::from(last)).saturating_sub(8);
     out.extend(b"<<")?;
-    put_hex(out, bytes)?;
+    put_hex(bytes, out)?;
     out.push(b'/')?;
     put_number(out, bits)?;
     out.extend(b">>")
@@ -169,8 +169,10 @@ fn put_hex_backwards(out: &mut Bytes, bytes: &[u8]) -> Result<(), NoMemory>
     Ok(())
 }
 
-// Puts the digits of bytes at the end.
-fn put_hex(out: &mut Bytes, bytes: &[u8]) -> Result<(), NoMemory>
+/// Appends the digits of bytes in lower-case hexadecimal to `out`, two for each.
+///
+/// Where memory is wanting, the digits of some of the first bytes may have been appended.
+pub fn put_hex(bytes: &[u8], out: &mut Bytes) -> Result<(), NoMemory>
     ensures { OnOk result (out.new.items ≡ out.old.items ++ encode_lower bytes.now) }
 {
     for piece in bytes.chunks(PIECE) {

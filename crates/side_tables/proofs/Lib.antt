@@ -4,4 +4,3 @@ pub mod Tables
 pub mod Loop
 pub mod Numbered
 pub mod LiteralTables
-pub mod Digits

@@ -1,7 +1,6 @@
 //! The table of literals as text.
 
 ghost use Rattle.std.specs.Prelude.{◌≡◌, ◌++◌, IfOk, OnOk};
-ghost use Rattle.hex.specs.Hex.{encode_lower};
 ghost use Rattle.side_tables.specs.Literal.{plain};
 ghost use Rattle.side_tables.specs.Text.{numbered_lines};
 ghost use Rattle.side_tables.specs.LiteralText.{shown, literal_line, literals_text};
@@ -10,7 +9,7 @@ use crate::literal::{Literal, LiteralList};
 use crate::literals::Literals;
 use crate::text::put_number;
 use bk_base::{Bytes, NoMemory};
-use ext_term::put_term;
+use ext_term::{put_hex, put_term};
 use std::alloc::Global;
 
 /// The text of a table: for each literal, counted from 0, the line `N TERM` with its term
@@ -55,19 +54,7 @@ fn put_shown(out: &mut Bytes, literal: &Literal<'_>) -> Result<(), NoMemory>
         Some(term) => put_term(term, out),
         None => {
             out.extend(b"bytes ")?;
-            put_hex(out, literal.bytes)
+            put_hex(literal.bytes, out)
         }
     }
-}
-
-// The digits of bytes.
-fn put_hex(out: &mut Bytes, bytes: &[u8]) -> Result<(), NoMemory>
-    ensures { OnOk result (out.new.items ≡ out.old.items ++ encode_lower bytes.now) }
-{
-    for b in bytes {
-        let mut digits = [0; 2];
-        hex::encode_to_slice([*b], &mut digits).unwrap();
-        out.extend(&digits)?;
-    }
-    Ok(())
 }
