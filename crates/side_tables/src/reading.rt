@@ -23,7 +23,7 @@ use std::alloc::Global;
 ///
 /// It is refused for the first thing from the left that is wrong: `Version` where the first word is
 /// there and is not 0, even if the others are cut; `Cut` where bytes of a word, of an item or of a
-/// file name are missing; `ItemTag` at any other operand that is no item; `FileIndex` at a switch to
+/// file name are missing; `ItemTag` where anything else is wrong with an item; `FileIndex` at a switch to
 /// a file above the number of file names; `Rest` where bytes stand behind the last file name.
 pub fn read_lines(alloc: Global, s: &[u8]) -> Result<Lines, SideRefusal>
     // What is read is spelled there.
