@@ -277,7 +277,13 @@ fn tables_are_shown_or_refused(rt: HostRuntime) -> Result<(), Fail> {
 }
 
 #[test]
-fn literals_and_lines_are_shown_or_refused(rt: HostRuntime) -> Result<(), Fail> {
+fn literals_lines_and_terms_are_shown_or_refused(rt: HostRuntime) -> Result<(), Fail> {
+    let mut deep = Vec::new(rt.alloc());
+    deep.push(131)?;
+    for _ in 0..256 {
+        deep.extend_from_slice(b"h\x01")?;
+    }
+    deep.push(b'j')?;
     for (what, id, payload, status, output, message) in [
         (
             "literals",
@@ -379,21 +385,6 @@ fn literals_and_lines_are_shown_or_refused(rt: HostRuntime) -> Result<(), Fail> 
             "Line: rest",
         ),
         ("lines", b"LitT", b"", 3, "", "no chunk Line"),
-    ] {
-        shows(&rt, what, &[(id, payload)], status, output, message)?;
-    }
-    Ok(())
-}
-
-#[test]
-fn terms_are_shown_or_refused(rt: HostRuntime) -> Result<(), Fail> {
-    let mut deep = Vec::new(rt.alloc());
-    deep.push(131)?;
-    for _ in 0..256 {
-        deep.extend_from_slice(b"h\x01")?;
-    }
-    deep.push(b'j')?;
-    for (what, id, payload, status, output, message) in [
         (
             "attributes",
             b"Attr".as_slice(),
