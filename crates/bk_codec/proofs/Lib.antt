@@ -1,6 +1,7 @@
 pub mod Steps
 pub mod Numbers
 pub mod Agreement
+pub mod Agreeing
 pub mod Lengths
 pub mod Loop
 pub mod Counted

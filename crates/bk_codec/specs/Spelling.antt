@@ -28,6 +28,14 @@ pub record SpellsNumber (n x : ℕ) (bytes : List ℕ) : Type 0 where
 abbrev pub SpellsWord : ℕ → List ℕ → Type 0
 SpellsWord = SpellsNumber 4
 
--- a word with the count of the values, and then the values one after another
+-- a number of n bytes with the count of the bytes, and then the bytes
+abbrev pub SpellsBytes : ℕ → List ℕ → List ℕ → Type 0
+SpellsBytes n s = Then (SpellsNumber n (length s)) (λ text. text ≡ s)
+
+-- a number of n bytes with the count of the values, and then the values one after another
+abbrev pub SpellsCountedIn : {A : Type 0} → ℕ → (A → List ℕ → Type 0) → List A → List ℕ → Type 0
+SpellsCountedIn n R xs = Then (SpellsNumber n (length xs)) (SpellsMany R xs)
+
+-- the same with a word
 abbrev pub SpellsCounted : {A : Type 0} → (A → List ℕ → Type 0) → List A → List ℕ → Type 0
-SpellsCounted R xs = Then (SpellsWord (length xs)) (SpellsMany R xs)
+SpellsCounted R xs = SpellsCountedIn 4 R xs

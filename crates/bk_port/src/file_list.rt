@@ -49,7 +49,7 @@ impl FileList {
         self.files.get(i)
     }
 
-    // The place of the first file with this name.
+    /// The place of the first file with this name.
     pub(crate) fn position(&self, name: &Text) -> Option<usize>
         ensures bytes { bytes_at self.now result ≡ bytes_held self.now name.now }
         ensures listed { is_some result ≡ is_listed self.now name.now }
@@ -62,7 +62,7 @@ impl FileList {
         None
     }
 
-    // The bytes of the file at this place, if there is one.
+    /// The bytes of the file at this place, if there is one.
     pub(crate) fn bytes(&self, place: Option<usize>) -> &[u8]
         ensures { result.now ≡ bytes_at self.now place }
     {

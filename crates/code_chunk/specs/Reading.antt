@@ -1,7 +1,6 @@
 -- How the payload of a code chunk is read from the left, and which refusal comes first.
-use Rattle.std.specs.Prelude.{ℕ, suc, ◌+◌, ◌-◌, Option, Some, None, List, [], ◌∷◌, length, drop, ◌==◌, nat_lt, if◌then◌else◌, Result, Ok, Err}
+use Rattle.std.specs.Prelude.{ℕ, suc, ◌-◌, Option, Some, None, List, [], ◌∷◌, length, drop, ◌==◌, nat_lt, if◌then◌else◌, Result, Ok, Err}
 use Rattle.byteorder.specs.Endian.{big_number}
-use Rattle.bk_base.specs.Place.{Place}
 use Rattle.bk_codec.specs.Reading.{◌>>=◌, giving, made_of, bytes_at, number_at, many_at, whole_of}
 use Rattle.compact_term.specs.declared.operand.Operand.{Operand}
 use Rattle.compact_term.specs.declared.refusal.OperandRefusal.{OperandRefusal}
@@ -11,10 +10,6 @@ use Rattle.op_table.specs.Instruction.{Instruction}
 use Rattle.code_chunk.specs.declared.code.CodeVal.{CodeVal}
 use Rattle.code_chunk.specs.declared.refusal.CodeRefusal.{CodeRefusal}
 use Rattle.code_chunk.specs.declared.refusal.CodeRefusal.TheVariants as refusals
-
--- the offset of the end of what is read
-abbrev pub end_of : Place → ℕ
-end_of p = p.offset + length p.rest
 
 -- a refused operand, with its offset
 abbrev pub located : {X : Type 0} → ℕ → Result X OperandRefusal → Result X CodeRefusal

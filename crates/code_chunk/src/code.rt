@@ -6,7 +6,8 @@ ghost use Rattle.code_chunk.specs.declared.code.CodeVal.{CodeVal};
 ghost use Rattle.code_chunk.specs.Spelling.{SpellsCode};
 ghost use Rattle.code_chunk.specs.Code.{IsCode};
 ghost use Rattle.code_chunk.specs.Stop.{IsWrong};
-ghost use Rattle.code_chunk.specs.Reading.{end_of, header_at, code_at};
+ghost use Rattle.bk_base.specs.Place.{end_of};
+ghost use Rattle.code_chunk.specs.Reading.{header_at, code_at};
 
 use crate::instructions::{InstrList, instructions};
 use crate::refusal::CodeRefusal;

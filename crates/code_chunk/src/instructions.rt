@@ -2,7 +2,8 @@
 
 ghost use Rattle.std.specs.Prelude.{◌≡◌, ◌↔◌, ◌<◌, [], ◌∷◌, ◌++◌, length, slice_get, IsTrue, OnOk, OnErr, option_copied};
 ghost use Rattle.bk_codec.specs.Reading.{Gives, GivesAll, many_at, whole_of};
-ghost use Rattle.code_chunk.specs.Reading.{end_of, operand_in, instr_at};
+ghost use Rattle.bk_base.specs.Place.{end_of};
+ghost use Rattle.code_chunk.specs.Reading.{operand_in, instr_at};
 
 use crate::refusal::CodeRefusal;
 use bk_base::{Cursor, NoMemory};
@@ -110,7 +111,7 @@ fn instruction(alloc: Global, cur: &mut Cursor<'_>) -> Result<Instr, CodeRefusal
     Ok(Instr::new(op, operands))
 }
 
-// The instructions up to the end.
+/// The instructions up to the end.
 pub(crate) fn instructions(alloc: Global, cur: &mut Cursor<'_>) -> Result<InstrList, CodeRefusal>
     ensures { GivesAll CodeRefusal.NoMemory (λ is. is) result (whole_of (instr_at (end_of cur.old)) cur.old.rest) }
 {

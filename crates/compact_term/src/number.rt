@@ -15,7 +15,7 @@ pub(crate) const LONG: u8 = 248;
 /// The most bytes of an integer that is kept as a number.
 pub(crate) const MOST_BYTES: u64 = 16;
 
-// The number in the forms of up to eight bytes.
+/// The number in the forms of up to eight bytes.
 #[tactic(auto, unfolding(crate::specs::Reading::short_at))]
 pub(crate) fn short(cur: &mut Cursor<'_>, first: u8) -> Result<i64, OperandRefusal>
     requires { first < 248 }
@@ -33,7 +33,7 @@ pub(crate) fn short(cur: &mut Cursor<'_>, first: u8) -> Result<i64, OperandRefus
     Ok(BigEndian::read_int(bytes, n))
 }
 
-// The number, where it is not negative and at most `max`.
+/// The number, where it is not negative and at most `max`.
 pub(crate) fn natural_of(max: u64, tag: u8, z: i128) -> Result<u64, OperandRefusal>
     ensures value { result ≡ natural (max + 1) tag z }
     ensures within { IfOk result (λ n. n ≤ max) }
@@ -47,7 +47,7 @@ pub(crate) fn natural_of(max: u64, tag: u8, z: i128) -> Result<u64, OperandRefus
     Ok(z as u64)
 }
 
-// How many bytes the longest form has: nine or more.
+/// How many bytes the longest form has: nine or more.
 #[tactic(auto, unfolding(crate::specs::Reading::length_at))]
 pub(crate) fn length(cur: &mut Cursor<'_>) -> Result<u64, OperandRefusal>
     ensures value { Gives OperandRefusal.NoMemory (λ n. n) cur.new.rest result (length_at cur.old.rest) }
@@ -65,7 +65,7 @@ pub(crate) fn length(cur: &mut Cursor<'_>) -> Result<u64, OperandRefusal>
     Ok(more + 9)
 }
 
-// The number in 9 to 16 bytes.
+/// The number in 9 to 16 bytes.
 pub(crate) fn long(cur: &mut Cursor<'_>, n: u64) -> Result<i128, OperandRefusal>
     requires few { n ≤ 16 }
     requires least { 9 ≤ n }
@@ -76,7 +76,7 @@ pub(crate) fn long(cur: &mut Cursor<'_>, n: u64) -> Result<i128, OperandRefusal>
     Ok(BigEndian::read_int128(bytes, n))
 }
 
-// The number of up to 16 bytes.
+/// The number of up to 16 bytes.
 #[tactic(auto, unfolding(crate::specs::Reading::whole_at))]
 pub(crate) fn whole(cur: &mut Cursor<'_>, first: u8) -> Result<i128, OperandRefusal>
     ensures { Gives OperandRefusal.NoMemory (λ z. z) cur.new.rest result (whole_at first cur.old.rest) }
@@ -101,7 +101,8 @@ fn bounded(cur: &mut Cursor<'_>, max: u64, first: u8) -> Result<u64, OperandRefu
     natural_of(max, first % 8, z)
 }
 
-// The same. Most numbers stand in the first byte itself.
+/// The number behind its first byte, where it is not negative and at most `max`. Most numbers stand
+/// in the first byte itself.
 #[inline]
 #[tactic(auto, unfolding(crate::specs::Reading::below_at, crate::specs::Reading::whole_at, crate::specs::Reading::short_at))]
 pub(crate) fn at_most(cur: &mut Cursor<'_>, max: u64, first: u8) -> Result<u64, OperandRefusal>

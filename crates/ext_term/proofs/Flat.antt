@@ -4,7 +4,7 @@ use Rattle.std.proofs.lemmas.Bool.{eqb-true}
 use Rattle.std.specs.Str.{IsUtf8, is_utf8, encode_utf8_all}
 use Rattle.std.proofs.lemmas.Str.{IsUtf8-from_is_utf8, is_utf8-from_IsUtf8}
 use Rattle.bk_codec.specs.Reading.{◌>>=◌, giving, made_of, byte_at, bytes_at, number_at}
-use Rattle.bk_codec.specs.Spelling.{IsBytes, Then, SpellsNumber}
+use Rattle.bk_codec.specs.Spelling.{IsBytes, Then, SpellsNumber, SpellsBytes}
 use Rattle.bk_codec.proofs.Steps.{bind_ok, chosen, ok_is}
 use Rattle.bk_codec.proofs.Agreement.{Agrees, Takes, Takes-weaker, byte_agrees, bytes_agree, number_agrees}
 use Rattle.ext_term.specs.declared.term.Term.{Term}
@@ -12,9 +12,9 @@ use Rattle.ext_term.specs.declared.term.Term.TheVariants as terms
 use Rattle.ext_term.specs.declared.refusal.TermRefusal.{TermRefusal}
 use Rattle.ext_term.specs.declared.refusal.TermRefusal.TheVariants.{Cut, AtomText, BitTail}
 use Rattle.ext_term.specs.Integer.{big_of}
-use Rattle.ext_term.specs.Spelling.{SpellsBytes, SpellsBig, SpellsAtom, latin_100, latin_115, utf8_118, utf8_119, byte_term}
+use Rattle.ext_term.specs.Spelling.{SpellsBig, SpellsAtom, latin_100, latin_115, utf8_118, utf8_119, byte_term}
 use Rattle.ext_term.specs.Reading.{sized_at, big_at, latin_at, text_of, utf8_at, atom_at, is_atom_tag, string_at, has_bits, bits_at}
-use Rattle.ext_term.proofs.Agreeing.{Two, Made, agrees_as, agrees_two, agrees_made, agrees_test, agrees_bytes}
+use Rattle.bk_codec.proofs.Agreeing.{Two, Made, agrees_as, agrees_two, agrees_made, agrees_test, agrees_bytes}
 
 -- ---- tests of tags
 

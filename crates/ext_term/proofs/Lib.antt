@@ -1,8 +1,8 @@
-pub mod Agreeing
 pub mod Commas
 pub mod Digits
 pub mod Flat
 pub mod Levels
+pub mod Lines
 pub mod Magnitude
 pub mod Names
 pub mod Nested

@@ -2,16 +2,16 @@
 use Rattle.std.proofs.Common.{◌≡◌, ◌≤◌, ◌-◌, ℕ, zero, suc, false, cond, ◌==◌, List, [], ◌∷◌, ◌++◌, length, Result, Ok, Err, refl, sym, ap, subst, ◌∙◌, arith, inl, inr}
 use Rattle.std.proofs.lemmas.Bool.{eqb-true, ne_eqb}
 use Rattle.bk_codec.specs.Reading.{◌>>=◌, giving, made_of, byte_at, number_at, many_at}
-use Rattle.bk_codec.specs.Spelling.{IsBytes, Then, SpellsMany, SpellsNumber}
+use Rattle.bk_codec.specs.Spelling.{IsBytes, Then, SpellsMany, SpellsNumber, SpellsCountedIn}
 use Rattle.bk_codec.proofs.Steps.{bind_ok, chosen, ok_is}
 use Rattle.bk_codec.proofs.Agreement.{Agrees, Takes, Takes-weaker, byte_agrees, number_agrees}
 use Rattle.ext_term.specs.declared.term.Term.{Term}
 use Rattle.ext_term.specs.declared.term.Term.TheVariants as terms
 use Rattle.ext_term.specs.declared.refusal.TermRefusal.{TermRefusal}
 use Rattle.ext_term.specs.declared.refusal.TermRefusal.TheVariants.{Cut, Tag, Depth}
-use Rattle.ext_term.specs.Spelling.{SpellsCountedIn, SpellsAtom, latin_100, latin_115, utf8_118, utf8_119, SpellsPair}
+use Rattle.ext_term.specs.Spelling.{SpellsAtom, latin_100, latin_115, utf8_118, utf8_119, SpellsPair}
 use Rattle.ext_term.specs.Reading.{tag_at, is_atom_tag, atom_at, name_at, arity_at, export_at, tuple_at, list_at, pair_at, map_at}
-use Rattle.ext_term.proofs.Agreeing.{Two, Made, agrees_as, agrees_two, agrees_made, agrees_many}
+use Rattle.bk_codec.proofs.Agreeing.{Two, Made, agrees_as, agrees_two, agrees_made, agrees_many}
 use Rattle.ext_term.proofs.Flat.{AtomBehind, atom_agrees}
 
 -- ---- external functions

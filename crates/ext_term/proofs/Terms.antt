@@ -5,7 +5,7 @@ use Rattle.std.specs.Str.{encode_utf8_all}
 use Rattle.std.proofs.lemmas.List.{append-nil, append_cancel_right}
 use Rattle.byteorder.specs.Endian.{twos_complement}
 use Rattle.bk_codec.specs.Reading.{◌>>=◌, giving, made_of, byte_at, number_at, alone, GivesAll}
-use Rattle.bk_codec.specs.Spelling.{IsBytes, SpellsNumber}
+use Rattle.bk_codec.specs.Spelling.{IsBytes, SpellsNumber, SpellsBytes, SpellsCountedIn}
 use Rattle.bk_codec.proofs.Steps.{bind_ok, made_ok, chosen, ok_is}
 use Rattle.bk_codec.proofs.Agreement.{Agrees, Takes, Takes-weaker, byte_agrees, number_agrees, one_form}
 use Rattle.ext_term.specs.declared.term.Term.{Term}
@@ -13,9 +13,9 @@ use Rattle.ext_term.specs.declared.term.Term.TheVariants as terms
 use Rattle.ext_term.specs.declared.refusal.TermRefusal.{TermRefusal}
 use Rattle.ext_term.specs.declared.refusal.TermRefusal.TheVariants.{Cut, Tag, Depth, Rest, NoMemory}
 use Rattle.ext_term.specs.Integer.{int_of, big_of}
-use Rattle.ext_term.specs.Spelling.{SpellsBytes, SpellsBig, SpellsCountedIn, latin_100, latin_115, utf8_118, utf8_119, SpellsPair, byte_term, SpellsTagged, small_97, signed_98, big_110, big_111, atom, tuple_104, tuple_105, nil_106, string_107, list_108, binary_109, bits_77, export_113, map_116, SpellsTerm, SpellsFile}
+use Rattle.ext_term.specs.Spelling.{SpellsBig, latin_100, latin_115, utf8_118, utf8_119, SpellsPair, byte_term, SpellsTagged, small_97, signed_98, big_110, big_111, atom, tuple_104, tuple_105, nil_106, string_107, list_108, binary_109, bits_77, export_113, map_116, SpellsTerm, SpellsFile}
 use Rattle.ext_term.specs.Reading.{sized_at, big_at, integer_at, is_atom_tag, atom_at, string_at, has_bits, flat_at, tuple_at, list_at, export_at, nested_at, is_integer_tag, is_flat_tag, is_nested_tag, tagged_at, term_at, file_at, term_of}
-use Rattle.ext_term.proofs.Agreeing.{Two, Made, agrees_as, agrees_two, agrees_made, agrees_bytes}
+use Rattle.bk_codec.proofs.Agreeing.{Two, Made, agrees_as, agrees_two, agrees_made, agrees_bytes}
 use Rattle.ext_term.proofs.Flat.{last_of_four, last_of_five, IsBig, big_agrees, latin_agrees, utf8_agrees, AtomBehind, atom_agrees, IsBits, bits_agree, string_agrees}
 use Rattle.ext_term.proofs.Nested.{atom_parts, IsExport, export_agrees, tuple_agrees, map_agrees, IsList, list_agrees}
 

@@ -4,3 +4,4 @@ pub mod Spelling
 pub mod Reading
 pub mod Text
 pub mod Writing
+pub mod Lines

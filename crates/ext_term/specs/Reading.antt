@@ -1,8 +1,7 @@
 -- How a term is read from the left, and which refusal comes first.
-use Rattle.std.specs.Prelude.{ℕ, zero, suc, ◌+◌, ◌-◌, List, length, map, Bool, ◌==◌, ◌&&◌, ◌||◌, nat_le, if◌then◌else◌, Result, Ok, Err}
+use Rattle.std.specs.Prelude.{ℕ, zero, suc, ◌-◌, List, length, map, Bool, ◌==◌, ◌&&◌, ◌||◌, nat_le, if◌then◌else◌, Result, Ok, Err}
 use Rattle.std.specs.Str.{is_utf8, encode_utf8_all}
 use Rattle.byteorder.specs.Endian.{twos_complement}
-use Rattle.bk_base.specs.Place.{Place}
 use Rattle.bk_codec.specs.Reading.{◌>>=◌, giving, made_of, byte_at, bytes_at, number_at, many_at, alone}
 use Rattle.ext_term.specs.Integer.{int_of, big_of}
 use Rattle.ext_term.specs.Spelling.{byte_term}
@@ -10,10 +9,6 @@ use Rattle.ext_term.specs.declared.term.Term.{Term}
 use Rattle.ext_term.specs.declared.term.Term.TheVariants as terms
 use Rattle.ext_term.specs.declared.refusal.TermRefusal.{TermRefusal}
 use Rattle.ext_term.specs.declared.refusal.TermRefusal.TheVariants.{Cut, Tag, Depth, AtomText, BitTail, Rest}
-
--- the offset of the end of what is read
-abbrev pub end_of : Place → ℕ
-end_of p = p.offset + length p.rest
 
 -- bytes, as many as a number of k bytes says
 abbrev pub sized_at : ℕ → List ℕ → Result (List ℕ × List ℕ) TermRefusal

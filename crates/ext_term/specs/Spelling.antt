@@ -2,22 +2,14 @@
 use Rattle.std.specs.Prelude.{◌≡◌, ℕ, zero, suc, ◌≤◌, List, [], ◌∷◌, length, map, false, IsUtf8}
 use Rattle.std.specs.Str.{encode_utf8_all}
 use Rattle.byteorder.specs.Endian.{twos_complement}
-use Rattle.bk_codec.specs.Spelling.{Then, SpellsMany, SpellsNumber}
+use Rattle.bk_codec.specs.Spelling.{Then, SpellsMany, SpellsNumber, SpellsBytes, SpellsCountedIn}
 use Rattle.ext_term.specs.Integer.{int_of, big_of}
 use Rattle.ext_term.specs.declared.term.Term.{Term}
 use Rattle.ext_term.specs.declared.term.Term.TheVariants as terms
 
--- a number of k bytes with the count of the bytes, and then the bytes
-abbrev pub SpellsBytes : ℕ → List ℕ → List ℕ → Type 0
-SpellsBytes k s = Then (SpellsNumber k (length s)) (λ text. text ≡ s)
-
 -- a number of k bytes with the count of a magnitude's bytes, then a sign byte, and then the magnitude
 abbrev pub SpellsBig : ℕ → ℕ → List ℕ → List ℕ → Type 0
 SpellsBig k sign mag = Then (SpellsNumber k (length mag)) (λ text. text ≡ sign ∷ mag)
-
--- a number of k bytes with the count of the values, and then the values
-abbrev pub SpellsCountedIn : {A : Type 0} → ℕ → (A → List ℕ → Type 0) → List A → List ℕ → Type 0
-SpellsCountedIn k R xs = Then (SpellsNumber k (length xs)) (SpellsMany R xs)
 
 -- an atom by its name: in Latin-1, where each byte is a character, or in UTF-8
 pub data SpellsAtom : List ℕ → List ℕ → Type 0 where

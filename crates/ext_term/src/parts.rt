@@ -6,7 +6,8 @@ ghost use Rattle.byteorder.specs.Endian.{little_number, twos_complement};
 ghost use Rattle.bk_codec.specs.Reading.{Gives, GivesAll, made_of, number_at};
 ghost use Rattle.ext_term.specs.Integer.{int_of, big_of};
 ghost use Rattle.ext_term.specs.Spelling.{byte_term};
-ghost use Rattle.ext_term.specs.Reading.{end_of, sized_at, big_at, integer_at, latin_at, text_of, utf8_at, atom_at, string_at, bits_at, flat_at};
+ghost use Rattle.bk_base.specs.Place.{end_of};
+ghost use Rattle.ext_term.specs.Reading.{sized_at, big_at, integer_at, latin_at, text_of, utf8_at, atom_at, string_at, bits_at, flat_at};
 ghost use Rattle.ext_term.specs.declared.refusal.TermRefusal.TheVariants as refusals;
 
 use crate::refusal::TermRefusal;
@@ -185,14 +186,14 @@ pub(crate) fn atom(
 fn byte_terms(alloc: Global, bytes: &[u8]) -> Result<TermList, NoMemory>
     ensures { IfOk result (λ items. items ≡ map byte_term bytes.now) }
 {
-    let mut items = TermList::new(alloc);
+    let mut items = Vec::with_capacity(alloc, bytes.len())?;
     for b in bytes {
         items.push(Term::Int {
             neg: false,
             mag: u128::from(*b),
         })?;
     }
-    Ok(items)
+    Ok(TermList::from_vec(items))
 }
 
 // A list of bytes.

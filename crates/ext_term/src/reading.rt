@@ -3,7 +3,8 @@
 ghost use Rattle.std.specs.Prelude.{◌≡◌, ◌≤◌, ◌⊎◌, IfOk, OnOk, Ok, Err};
 ghost use Rattle.bk_codec.specs.Reading.{Gives, GivesAll, many_at};
 ghost use Rattle.ext_term.specs.Spelling.{SpellsFile};
-ghost use Rattle.ext_term.specs.Reading.{end_of, tag_at, name_at, arity_at, export_at, pair_at, nested_at, tagged_at, term_at, term_of};
+ghost use Rattle.bk_base.specs.Place.{end_of};
+ghost use Rattle.ext_term.specs.Reading.{tag_at, name_at, arity_at, export_at, pair_at, nested_at, tagged_at, term_at, term_of};
 ghost use Rattle.ext_term.specs.declared.refusal.TermRefusal.TheVariants as refusals;
 
 use crate::parts::{atom, flat, integer, number};

@@ -1,3 +1,2 @@
 pub mod AtomSpelling
 pub mod EntrySpelling
-pub mod Lines

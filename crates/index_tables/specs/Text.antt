@@ -1,7 +1,8 @@
 -- The text of the tables: a line for each record.
 use Rattle.std.specs.Prelude.{ℕ, List, ◌++◌, codes, decimal}
-use Rattle.std.specs.List.{flat_map, enumerate_from}
+use Rattle.std.specs.List.{flat_map}
 use Rattle.ext_term.specs.Name.{name_text}
+use Rattle.ext_term.specs.Lines.{numbered_lines}
 use Rattle.index_tables.specs.Atoms.{atom_name}
 use Rattle.index_tables.specs.declared.entry.Import.{Import}
 use Rattle.index_tables.specs.declared.entry.Export.{Export}
@@ -36,10 +37,6 @@ fun_line names n x =
     ++ codes "\n"
 
 -- ---- tables
-
--- the lines of the records, whose numbers go up from the first
-abbrev pub numbered_lines : {A : Type 0} → ℕ → (ℕ → A → List ℕ) → List A → List ℕ
-numbered_lines first line xs = flat_map (λ p. line p.0 p.1) (enumerate_from first xs)
 
 abbrev pub atoms_text : List (List ℕ) → List ℕ
 atoms_text names = numbered_lines 1 atom_line names

@@ -4,7 +4,8 @@ ghost use Rattle.std.specs.Prelude.{◌≡◌, ◌++◌, ℕ, List, All, IfOk, O
 ghost use Rattle.ext_term.specs.Name.{name_text};
 ghost use Rattle.index_tables.specs.Atoms.{IsAtom, atom_name};
 ghost use Rattle.index_tables.specs.Entries.{NamesAtoms, import_atoms, export_atoms, fun_atoms};
-ghost use Rattle.index_tables.specs.Text.{function_text, import_text, atom_line, numbered_lines, atoms_text, imports_text, exports_text, funs_text};
+ghost use Rattle.ext_term.specs.Lines.{numbered_lines};
+ghost use Rattle.index_tables.specs.Text.{function_text, import_text, atom_line, atoms_text, imports_text, exports_text, funs_text};
 
 use crate::entry::{Entry, Export, Fun, Import};
 use crate::table::{Atoms, Exports, Funs, Imports, Table};

@@ -9,7 +9,7 @@ use itoa::{Buffer, Integer};
 // How many bytes stand in a line of hexadecimal digits.
 pub(crate) const ROW: usize = 32;
 
-// Puts a mark and a number in decimal at the end.
+/// Puts a mark and a number in decimal at the end.
 pub(crate) fn put_number<I: Integer>(out: &mut Bytes, mark: &[u8], n: I) -> Result<(), NoMemory>
     ensures { OnOk result (out.new.items ≡ out.old.items ++ mark.now ++ I.text n) }
 {
@@ -17,7 +17,7 @@ pub(crate) fn put_number<I: Integer>(out: &mut Bytes, mark: &[u8], n: I) -> Resu
     out.extend(Buffer::new().format(n).as_bytes())
 }
 
-// Puts the digits of bytes that fit in a line at the end.
+/// Puts the digits of bytes that fit in a line at the end.
 pub(crate) fn put_row(out: &mut Bytes, row: &[u8]) -> Result<(), NoMemory>
     requires { length row.now ≤ 32 }
     ensures { OnOk result (out.new.items ≡ out.old.items ++ encode_lower row.now) }
@@ -28,7 +28,7 @@ pub(crate) fn put_row(out: &mut Bytes, row: &[u8]) -> Result<(), NoMemory>
     out.extend(digits)
 }
 
-// Puts the digits of bytes at the end.
+/// Puts the digits of bytes at the end.
 pub(crate) fn put_hex(out: &mut Bytes, bytes: &[u8]) -> Result<(), NoMemory>
     ensures { OnOk result (out.new.items ≡ out.old.items ++ encode_lower bytes.now) }
 {

@@ -2,5 +2,4 @@ pub mod Items
 pub mod Places
 pub mod Tables
 pub mod Loop
-pub mod Numbered
 pub mod LiteralTables

@@ -4,13 +4,12 @@ use Rattle.std.specs.Prelude.{IfOk, Option, Some, None}
 use Rattle.std.specs.Result.{result_ok}
 use Rattle.std.proofs.lemmas.Bool.{eqb-true, ne_eqb}
 use Rattle.bk_codec.specs.Reading.{◌>>=◌, made_of, bytes_at, many_at, ended, GivesAll}
-use Rattle.bk_codec.specs.Spelling.{IsBytes, Then, SpellsMany, SpellsNumber, SpellsWord, SpellsCounted}
+use Rattle.bk_codec.specs.Spelling.{IsBytes, Then, SpellsMany, SpellsNumber, SpellsWord, SpellsCounted, SpellsBytes}
 use Rattle.bk_codec.proofs.Steps.{bind_ok, made_ok, ok_is, chosen}
 use Rattle.bk_codec.proofs.Agreement.{Agrees, Takes, Takes-then, Takes-weaker, one_form, bytes_agree, many_agree, IsBytes-front, IsBytes-back}
 use Rattle.bk_codec.proofs.Ended.{ended_takes, ended_again}
 use Rattle.ext_term.specs.declared.term.Term.{Term}
 use Rattle.ext_term.specs.declared.refusal.TermRefusal.{TermRefusal}
-use Rattle.ext_term.specs.Spelling.{SpellsBytes}
 use Rattle.ext_term.specs.Reading.{term_of}
 use Rattle.ext_term.proofs.Terms.{file_takes, file_again}
 use Rattle.side_tables.specs.declared.literals.Literals.{Literals}

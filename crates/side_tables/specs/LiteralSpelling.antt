@@ -1,8 +1,8 @@
 -- How a table of literals is spelled as bytes.
 use Rattle.std.specs.Prelude.{◌≡◌, ◌≢◌, ◌↔◌, ℕ, List, Option, Some}
-use Rattle.bk_codec.specs.Spelling.{Then, SpellsWord, SpellsCounted}
+use Rattle.bk_codec.specs.Spelling.{Then, SpellsWord, SpellsCounted, SpellsBytes}
 use Rattle.ext_term.specs.declared.term.Term.{Term}
-use Rattle.ext_term.specs.Spelling.{SpellsBytes, SpellsFile}
+use Rattle.ext_term.specs.Spelling.{SpellsFile}
 use Rattle.side_tables.specs.declared.literals.Literals.{Literals}
 use Rattle.side_tables.specs.declared.literals.Literals.TheVariants.{Plain, Packed}
 use Rattle.side_tables.specs.Literal.{PlainLiteral}

@@ -6,7 +6,7 @@ use Rattle.ext_term.specs.Text.{term_text}
 use Rattle.side_tables.specs.declared.literals.Literals.{Literals}
 use Rattle.side_tables.specs.declared.literals.Literals.TheVariants.{Plain, Packed}
 use Rattle.side_tables.specs.Literal.{PlainLiteral}
-use Rattle.side_tables.specs.Text.{numbered_lines}
+use Rattle.ext_term.specs.Lines.{numbered_lines}
 
 -- a term, or else bytes in hexadecimal
 abbrev pub shown : Option Term → List ℕ → List ℕ

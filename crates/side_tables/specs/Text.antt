@@ -1,8 +1,8 @@
 -- The text of a table of lines.
 use Rattle.std.specs.Prelude.{ℕ, ℤ, List, ◌++◌, codes, decimal}
 use Rattle.std.specs.Fmt.{signed_decimal}
-use Rattle.std.specs.List.{flat_map, enumerate_from}
 use Rattle.ext_term.specs.Name.{name_text}
+use Rattle.ext_term.specs.Lines.{numbered_lines}
 use Rattle.side_tables.specs.declared.lines.Lines.{Lines}
 
 -- N FILE:LINE
@@ -12,10 +12,6 @@ place_line n p = decimal n ++ codes " " ++ decimal p.0 ++ codes ":" ++ signed_de
 -- file N NAME
 abbrev pub file_line : ℕ → List ℕ → List ℕ
 file_line n name = codes "file " ++ decimal n ++ codes " " ++ name_text name ++ codes "\n"
-
--- a line for each of the values, whose numbers go up from the first
-abbrev pub numbered_lines : {A : Type 0} → ℕ → (ℕ → A → List ℕ) → List A → List ℕ
-numbered_lines first line xs = flat_map (λ p. line p.0 p.1) (enumerate_from first xs)
 
 -- the number of line instructions, the places and the file names
 abbrev pub lines_text : Lines → List ℕ

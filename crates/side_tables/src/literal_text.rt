@@ -2,7 +2,7 @@
 
 ghost use Rattle.std.specs.Prelude.{◌≡◌, ◌++◌, IfOk, OnOk};
 ghost use Rattle.side_tables.specs.Literal.{plain};
-ghost use Rattle.side_tables.specs.Text.{numbered_lines};
+ghost use Rattle.ext_term.specs.Lines.{numbered_lines};
 ghost use Rattle.side_tables.specs.LiteralText.{shown, literal_line, literals_text};
 
 use crate::literal::{Literal, LiteralList};

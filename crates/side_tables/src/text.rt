@@ -1,7 +1,8 @@
 //! The table of lines as text.
 
 ghost use Rattle.std.specs.Prelude.{◌≡◌, ◌++◌, IfOk, OnOk};
-ghost use Rattle.side_tables.specs.Text.{numbered_lines, place_line, file_line, lines_text};
+ghost use Rattle.ext_term.specs.Lines.{numbered_lines};
+ghost use Rattle.side_tables.specs.Text.{place_line, file_line, lines_text};
 
 use crate::lines::Lines;
 use bk_base::{Bytes, NoMemory};

@@ -1,6 +1,7 @@
 use Rattle.std.proofs.Common.{◌∙◌, ap, sym, Some}
 use Rattle.bk_codec.proofs.Agreement.{many_at-length}
-use Rattle.code_chunk.specs.Reading.{end_of, operand_in}
+use Rattle.bk_base.specs.Place.{end_of}
+use Rattle.code_chunk.specs.Reading.{operand_in}
 use Rattle.code_chunk.proofs.instructions.instruction.Goals as goal
 
 pub new-requires : goal.new-requires

@@ -3,7 +3,8 @@ use Rattle.std.proofs.lemmas.Result.{err_from_is_err_and}
 use Rattle.bk_codec.specs.Reading.{whole_of, Fails}
 use Rattle.bk_codec.proofs.ToTheEnd.{goes_further, stops, is_whole}
 use Rattle.code_chunk.specs.declared.refusal.CodeRefusal.TheVariants.{NoMemory}
-use Rattle.code_chunk.specs.Reading.{end_of, instr_at}
+use Rattle.bk_base.specs.Place.{end_of}
+use Rattle.code_chunk.specs.Reading.{instr_at}
 use Rattle.code_chunk.proofs.Shrinking.{instr_shrinks, some_left}
 use Rattle.code_chunk.proofs.instructions.instructions.Goals as goal
 

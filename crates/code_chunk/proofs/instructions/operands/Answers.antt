@@ -3,7 +3,8 @@ use Rattle.std.proofs.lemmas.Result.{err_from_is_err_and}
 use Rattle.bk_codec.specs.Reading.{many_at, Fails}
 use Rattle.bk_codec.proofs.Loop.{goes_on, ends, is_done}
 use Rattle.code_chunk.specs.declared.refusal.CodeRefusal.TheVariants.{NoMemory}
-use Rattle.code_chunk.specs.Reading.{end_of, operand_in}
+use Rattle.bk_base.specs.Place.{end_of}
+use Rattle.code_chunk.specs.Reading.{operand_in}
 use Rattle.code_chunk.proofs.instructions.operands.Goals as goal
 
 pub returns-in_err-operand-clause-read : goal.returns-in_err-operand-clause-read

@@ -1,7 +1,8 @@
 use Rattle.std.proofs.Common.{◌≡◌, ◌-◌}
 use Rattle.bk_codec.specs.Reading.{many_at}
 use Rattle.bk_codec.proofs.Loop.{with_front}
-use Rattle.code_chunk.specs.Reading.{end_of, operand_in}
+use Rattle.bk_base.specs.Place.{end_of}
+use Rattle.code_chunk.specs.Reading.{operand_in}
 use Rattle.code_chunk.proofs.instructions.operands.Given as goal
 
 abbrev pub invariant-loop : goal.invariant-loop

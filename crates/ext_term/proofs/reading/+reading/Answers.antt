@@ -3,7 +3,8 @@ use Rattle.std.proofs.lemmas.Result.{err_from_is_err_and}
 use Rattle.bk_codec.specs.Reading.{many_at, Fails}
 use Rattle.bk_codec.proofs.Loop.{goes_on, ends}
 use Rattle.ext_term.specs.declared.refusal.TermRefusal.TheVariants.{NoMemory}
-use Rattle.ext_term.specs.Reading.{end_of, pair_at, term_at}
+use Rattle.bk_base.specs.Place.{end_of}
+use Rattle.ext_term.specs.Reading.{pair_at, term_at}
 use Rattle.ext_term.proofs.Levels.{term_at-is}
 use Rattle.ext_term.proofs.reading.+reading.Goals as goal
 

@@ -1,7 +1,8 @@
 use Rattle.std.proofs.Common.{◌≡◌, ◌-◌, ◌+◌, ◌*◌}
 use Rattle.bk_codec.specs.Reading.{many_at}
 use Rattle.bk_codec.proofs.Loop.{with_front}
-use Rattle.ext_term.specs.Reading.{end_of, pair_at, term_at}
+use Rattle.bk_base.specs.Place.{end_of}
+use Rattle.ext_term.specs.Reading.{pair_at, term_at}
 use Rattle.ext_term.proofs.reading.+reading.Given as goal
 
 abbrev pub decreases-term : goal.decreases-term

@@ -1,5 +1,6 @@
 use Rattle.std.proofs.Common.{◌≡◌, take}
-use Rattle.index_tables.specs.Text.{atom_line, numbered_lines}
+use Rattle.ext_term.specs.Lines.{numbered_lines}
+use Rattle.index_tables.specs.Text.{atom_line}
 use Rattle.index_tables.proofs.text.atoms_text.Given as goal
 
 abbrev pub invariant-loop-i : goal.invariant-loop-i

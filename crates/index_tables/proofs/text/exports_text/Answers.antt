@@ -1,7 +1,8 @@
 use Rattle.std.proofs.Common.{◌≡◌, ◌∙◌}
 use Rattle.std.proofs.lemmas.Result.{IfOk-weaker}
-use Rattle.index_tables.specs.Text.{export_line, numbered_lines, exports_text}
-use Rattle.index_tables.proofs.Lines.{lines-plain}
+use Rattle.ext_term.specs.Lines.{numbered_lines}
+use Rattle.index_tables.specs.Text.{export_line, exports_text}
+use Rattle.ext_term.proofs.Lines.{lines-plain}
 use Rattle.index_tables.proofs.text.exports_text.Goals as goal
 
 pub returns : goal.returns

@@ -1,5 +1,5 @@
 use Rattle.std.proofs.Common.{◌≡◌, take}
-use Rattle.index_tables.specs.Text.{numbered_lines}
+use Rattle.ext_term.specs.Lines.{numbered_lines}
 use Rattle.index_tables.proofs.text.table_text.Given as goal
 
 abbrev pub invariant-loop-number : goal.invariant-loop-number

@@ -2,7 +2,7 @@ use Rattle.std.proofs.Common.{ap, sym, ◌∙◌, arith}
 use Rattle.std.proofs.lemmas.List.{get_or-map, length-map}
 use Rattle.side_tables.specs.Literal.{plain, plains}
 use Rattle.side_tables.specs.LiteralText.{literal_line}
-use Rattle.side_tables.proofs.Numbered.{line_written}
+use Rattle.ext_term.proofs.Lines.{line_written}
 use Rattle.side_tables.proofs.literal_text.put_literals.Goals as goal
 
 pub loop-i-preserved : goal.loop-i-preserved

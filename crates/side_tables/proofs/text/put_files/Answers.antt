@@ -1,6 +1,6 @@
 use Rattle.std.proofs.Common.{◌+◌, arith}
 use Rattle.side_tables.specs.Text.{file_line}
-use Rattle.side_tables.proofs.Numbered.{line_written}
+use Rattle.ext_term.proofs.Lines.{line_written}
 use Rattle.side_tables.proofs.text.put_files.Goals as goal
 
 pub loop-i-preserved : goal.loop-i-preserved

@@ -1,5 +1,6 @@
 use Rattle.std.proofs.Common.{◌≡◌, ◌++◌, take}
-use Rattle.side_tables.specs.Text.{numbered_lines, file_line}
+use Rattle.ext_term.specs.Lines.{numbered_lines}
+use Rattle.side_tables.specs.Text.{file_line}
 use Rattle.side_tables.proofs.text.put_files.Given as goal
 
 abbrev pub invariant-loop-i : goal.invariant-loop-i

@@ -1,6 +1,6 @@
 use Rattle.std.proofs.Common.{◌+◌, pos, get_or, refl, arith}
 use Rattle.side_tables.specs.Text.{place_line}
-use Rattle.side_tables.proofs.Numbered.{line_written}
+use Rattle.ext_term.proofs.Lines.{line_written}
 use Rattle.side_tables.proofs.text.put_places.Goals as goal
 
 pub loop-i-preserved : goal.loop-i-preserved

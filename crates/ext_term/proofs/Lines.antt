@@ -1,8 +1,8 @@
 -- A text grows by a line at a time.
 use Rattle.std.proofs.Common.{◌≡◌, ℕ, zero, suc, ◌+◌, ◌<◌, List, [], ◌∷◌, ◌++◌, length, get_or, take, refl, sym, ap, subst, ◌∙◌, append_assoc, arith}
-use Rattle.std.specs.List.{flat_map}
 use Rattle.std.proofs.lemmas.List.{append-nil}
-use Rattle.index_tables.specs.Text.{numbered_lines}
+use Rattle.std.specs.List.{flat_map}
+use Rattle.ext_term.specs.Lines.{numbered_lines}
 
 pub lines_more : {A : Type 0} (first : ℕ) (line : ℕ → A → List ℕ) (xs : List A) (i : ℕ) (d : A) → i < length xs
     → numbered_lines first line (take (i + 1) xs) ≡ numbered_lines first line (take i xs) ++ line (first + i) (get_or xs i d)
@@ -18,18 +18,19 @@ lines_more first line (x ∷ xs) (suc i) d lt =
     ∙ sym (append_assoc (line first x) (numbered_lines (first + 1) line (take i xs)) (line (first + 1 + i) (get_or xs i d)))
     ∙ ap (λ (n : ℕ). line first x ++ numbered_lines (first + 1) line (take i xs) ++ line n (get_or xs i d)) number
 
--- one line more was written: that of item i, whose number is k
-pub line_written : {A : Type 0} (first : ℕ) (line : ℕ → A → List ℕ) (xs items : List A) (i k : ℕ) (x : A) (old new : List ℕ)
-    → i < length items → items ≡ xs → x ≡ get_or items i x → k ≡ first + i → old ≡ numbered_lines first line (take i xs) → new ≡ old ++ line k x
-    → new ≡ numbered_lines first line (take (i + 1) xs)
-line_written first line xs items i k x old new lt same item number before written =
-    let item_is : x ≡ get_or xs i x = item ∙ ap (λ (ys : List _). get_or ys i x) same in
+-- one line more was written behind the old text: that of item i, whose number is k
+pub line_written : {A : Type 0} (first : ℕ) (line : ℕ → A → List ℕ) (xs items : List A) (i k : ℕ) (x d : A) (text old new : List ℕ)
+    → i < length items → items ≡ xs → x ≡ get_or items i d → k ≡ first + i → old ≡ text ++ numbered_lines first line (take i xs) → new ≡ old ++ line k x
+    → new ≡ text ++ numbered_lines first line (take (i + 1) xs)
+line_written first line xs items i k x d text old new lt same item number before written =
+    let item_is : x ≡ get_or xs i d = item ∙ ap (λ (ys : List _). get_or ys i d) same in
     let inside : i < length xs = subst (λ (ys : List _). i < length ys) same lt in
     written
     ∙ ap (λ (t : List ℕ). t ++ line k x) before
-    ∙ ap (λ (y : _). numbered_lines first line (take i xs) ++ line k y) item_is
-    ∙ ap (λ (n : ℕ). numbered_lines first line (take i xs) ++ line n (get_or xs i x)) number
-    ∙ sym (lines_more first line xs i x inside)
+    ∙ append_assoc text (numbered_lines first line (take i xs)) (line k x)
+    ∙ ap (λ (y : _). text ++ (numbered_lines first line (take i xs) ++ line k y)) item_is
+    ∙ ap (λ (n : ℕ). text ++ (numbered_lines first line (take i xs) ++ line n (get_or xs i d))) number
+    ∙ ap (λ (t : List ℕ). text ++ t) (sym (lines_more first line xs i d inside))
 
 -- lines that show no number
 pub lines-plain : {A : Type 0} (first : ℕ) (line : A → List ℕ) (xs : List A) → numbered_lines first (λ _ x. line x) xs ≡ flat_map line xs

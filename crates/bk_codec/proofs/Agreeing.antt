@@ -1,10 +1,9 @@
 -- Readings that are put together agree with what their parts spell.
 use Rattle.std.proofs.Common.{◌≡◌, ℕ, Bool, true, false, cond, List, ◌++◌, length, Result, Ok, Err, refl, sym, ap, subst, ◌∙◌, append_assoc}
 use Rattle.bk_codec.specs.Reading.{◌>>=◌, giving, made_of, number_at, bytes_at, many_at}
-use Rattle.bk_codec.specs.Spelling.{IsBytes, Then, SpellsMany, SpellsNumber}
+use Rattle.bk_codec.specs.Spelling.{IsBytes, Then, SpellsMany, SpellsNumber, SpellsBytes}
 use Rattle.bk_codec.proofs.Steps.{bind_ok, made_ok, ok_is}
 use Rattle.bk_codec.proofs.Agreement.{Agrees, Takes, Takes-then, Takes-weaker, many_agree, number_agrees, bytes_agree}
-use Rattle.ext_term.specs.Spelling.{SpellsBytes}
 
 -- the same spelling in other words
 pub agrees_as : {E A : Type 0} {p : List ℕ → Result (A × List ℕ) E} {R S : A → List ℕ → Type 0}
