@@ -1,6 +1,8 @@
 #!/bin/sh
 # Compares `info` and `show` with what Erlang's own beam_lib says of installed .beam files, and sees
-# that `disasm` lists each of them. It is skipped where Erlang is missing.
+# that `disasm` lists each of them. Literals are packed in these files, so `show literals` is also
+# compared for forms that are made of them and hold the same literals unpacked, and for a form of made
+# literals. It is skipped where Erlang is missing.
 # Words: files, or none for those below /usr/lib and /usr/local/lib.
 set -eu
 top=$(CDPATH= cd -- "$(dirname -- "$0")/.." && pwd)
@@ -14,30 +16,54 @@ trap 'rm -rf "$folder"' EXIT
 "$top/beamkit" info "$top/crates/beam_cli/data/sample.beam" >/dev/null
 program=$top/crates/beam_cli/out/beam_cli
 escript "$top/tools/expected.escript" "$folder" "$@"
-count=0
+: >"$folder/refused"
 same=0
 differ=0
+skipped=0
+
+# Runs the program and compares. Words: a file with the expected output, or `any` for any output; the
+# file; and the words before its name. Where `missing ID` is expected, a refusal has to name this chunk.
+compare() {
+    expected=$1
+    file=$2
+    shift 2
+    status=0
+    "$program" "$@" "$file" >"$folder/own" 2>"$folder/said" || status=$?
+    right=no
+    if [ "$expected" = any ]; then
+        [ $status -ne 0 ] || right=yes
+    elif id=$(grep -x 'missing ....' "$expected"); then
+        said="beamkit: $file: no chunk ${id#missing }"
+        [ $status -ne 3 ] || [ "$(cat "$folder/said")" != "$said" ] || right=yes
+    elif [ $status -eq 0 ] && cmp -s "$folder/own" "$expected"; then
+        right=yes
+    fi
+    [ $status -eq 0 ] || echo "$*: $(sed "s|^beamkit: $file: ||" "$folder/said")" >>"$folder/refused"
+    if [ $right = yes ]; then same=$((same + 1)); else
+        differ=$((differ + 1))
+        echo "differs: $* $file (status $status)"
+        [ "$expected" = any ] || cmp "$folder/own" "$expected" 2>&1 | sed 's|^|  |'
+    fi
+}
+
+count=0
 for file in "$@"; do
     count=$((count + 1))
-    for what in info atoms imports exports locals funs disasm; do
-        case $what in
-        info | disasm) words=$what ;;
-        *) words="show $what" ;;
-        esac
-        status=0
-        "$program" $words "$file" >"$folder/own" 2>/dev/null || status=$?
-        if [ "$what" = disasm ]; then
-            [ "$status" -eq 0 ] && right=yes || right=no
-        elif [ "$(cat "$folder/$count.$what")" = missing ]; then
-            [ "$status" -eq 3 ] && right=yes || right=no
+    compare any "$file" disasm
+    compare "$folder/$count.info" "$file" info
+    for what in atoms imports exports locals funs literals lines attributes compile; do
+        if [ -f "$folder/$count.$what" ]; then
+            compare "$folder/$count.$what" "$file" show $what
         else
-            cmp -s "$folder/own" "$folder/$count.$what" && right=yes || right=no
-        fi
-        if [ $right = yes ]; then same=$((same + 1)); else
-            differ=$((differ + 1))
-            echo "differs: $words $file"
+            skipped=$((skipped + 1))
         fi
     done
+    [ ! -f "$folder/$count.beam" ] || compare "$folder/$count.plain" "$folder/$count.beam" show literals
 done
-echo "$count files: $same outputs as expected, $differ not"
+compare "$folder/made.plain" "$folder/made.beam" show literals
+echo "refusals:"
+sort "$folder/refused" | uniq -c
+echo "$count files and $(cd "$folder" && ls ./*.beam | wc -l) made forms, $(cat "$folder"/*.plain | wc -l) literals in these"
+echo "$((same + differ)) outputs compared, $skipped left out for maps of more than 32 keys"
+echo "$same as expected, $differ not"
 [ $differ -eq 0 ]
