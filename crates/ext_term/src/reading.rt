@@ -76,7 +76,7 @@ fn export(alloc: Global, cur: &mut Cursor<'_>, levels: usize) -> Result<Term, Te
     Ok(Term::Export(module, function, arity))
 }
 
-// Terms, as many as a count says. No room is taken by that count.
+// Terms, as many as a count says. No room is taken by that count, and none is left behind the last.
 #[cycle(reading)]
 fn terms(
     alloc: Global,
@@ -87,12 +87,13 @@ fn terms(
     ensures read { Gives refusals.NoMemory (λ ts. ts) cur.new.rest result (many_at (term_at (end_of cur.old) levels) count cur.old.rest) }
     ensures end { end_of cur.new ≡ end_of cur.old }
 {
-    let mut items = TermList::new(alloc);
+    let mut items = Vec::new(alloc);
     for _ in 0..count {
         let t = term(alloc, cur, levels)?;
         items.push(t)?;
     }
-    Ok(items)
+    items.shrink_to_fit();
+    Ok(TermList::from_vec(items))
 }
 
 // A key and its value.
@@ -117,12 +118,13 @@ fn pairs(
     ensures read { Gives refusals.NoMemory (λ ps. ps) cur.new.rest result (many_at (pair_at (term_at (end_of cur.old) levels)) count cur.old.rest) }
     ensures end { end_of cur.new ≡ end_of cur.old }
 {
-    let mut pairs = TermPairList::new(alloc);
+    let mut pairs = Vec::new(alloc);
     for _ in 0..count {
         let p = pair(alloc, cur, levels)?;
         pairs.push(p)?;
     }
-    Ok(pairs)
+    pairs.shrink_to_fit();
+    Ok(TermPairList::from_vec(pairs))
 }
 
 // What is behind a tag of terms that have terms in them, `levels` more in one another.

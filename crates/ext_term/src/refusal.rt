@@ -4,7 +4,7 @@ ghost use Rattle.std.specs.Prelude.{◌≡◌};
 ghost use Rattle.ext_term.specs.declared.refusal.TermRefusal.TheVariants as refusals;
 
 use bk_base::NoMemory;
-use std::alloc::AllocError;
+use std::alloc::{AllocError, AllocFailed};
 use thiserror::Error;
 
 /// What is wrong with bytes that are no term: the first such thing from the left. Offsets count bytes
@@ -46,6 +46,14 @@ impl From<AllocError> for TermRefusal {
     ghost from_gives = { λ _ e. e ≡ refusals.NoMemory };
 
     fn from(_e: AllocError) -> TermRefusal {
+        TermRefusal::NoMemory
+    }
+}
+
+impl<T: Drop> From<AllocFailed<T>> for TermRefusal {
+    ghost from_gives = { λ _ e. e ≡ refusals.NoMemory };
+
+    fn from(_e: AllocFailed<T>) -> TermRefusal {
         TermRefusal::NoMemory
     }
 }

@@ -14,7 +14,7 @@ pairs-returns-in_err-p-clause-read t c =
     let one = pair_at (term_at (end_of c.args.cur.now) c.args.levels) in
     let refused : Fails NoMemory c.in_err-p.field-0.0 (one c.loop.cur.rest) =
     subst (λ (end : ℕ). Fails NoMemory c.in_err-p.field-0.0 (pair_at (term_at end c.args.levels) c.loop.cur.rest)) c.loop.invariant.same c.in_err-p.ensures.read in
-    rw (p.1, p.2) (ends NoMemory one c.loop.pairs c.args.count c.loop.counter c.loop.cur.rest c.in_err-p.field-0.0 (many_at one c.args.count c.args.cur.now.rest) c.loop-test.true refused c.loop.invariant.read)
+    rw (p.1, p.2) (ends NoMemory one c.loop.pairs.items c.args.count c.loop.counter c.loop.cur.rest c.in_err-p.field-0.0 (many_at one c.args.count c.args.cur.now.rest) c.loop-test.true refused c.loop.invariant.read)
 
 pub pairs-loop-preserved : goal.pairs-loop-preserved
 pairs-loop-preserved t c =
@@ -22,9 +22,17 @@ pairs-loop-preserved t c =
     let read : one c.loop.cur.rest ≡ Ok (c.in_ok-p.p, c.pair.new.cur.rest) =
     subst (λ (end : ℕ). pair_at (term_at end c.args.levels) c.loop.cur.rest ≡ Ok (c.in_ok-p.p, c.pair.new.cur.rest)) c.loop.invariant.same c.in_ok-p.ensures.read in
     record {
-      read = rw c.in_ok-push.ensures.ok (goes_on one c.loop.pairs c.args.count c.loop.counter c.loop.cur.rest c.pair.new.cur.rest c.in_ok-p.p (many_at one c.args.count c.args.cur.now.rest) c.loop-test.true read c.loop.invariant.read);
+      read = rw c.in_ok-push.ensures.items (goes_on one c.loop.pairs.items c.args.count c.loop.counter c.loop.cur.rest c.pair.new.cur.rest c.in_ok-p.p (many_at one c.args.count c.args.cur.now.rest) c.loop-test.true read c.loop.invariant.read);
       same = c.in_ok-p.ensures.end ∙ c.loop.invariant.same;
     }
+
+pub terms-returns-in_err-t-clause-read : goal.terms-returns-in_err-t-clause-read
+terms-returns-in_err-t-clause-read t c =
+    let p = err_from_is_err_and c.from_residual.result c.from_residual.ensures.1 in
+    let one = term_at (end_of c.args.cur.now) c.args.levels in
+    let refused : Fails NoMemory c.in_err-t.field-0.0 (one c.loop.cur.rest) =
+    subst (λ (end : ℕ). Fails NoMemory c.in_err-t.field-0.0 (term_at end c.args.levels c.loop.cur.rest)) c.loop.invariant.same c.in_err-t.ensures.read in
+    rw (p.1, p.2) (ends NoMemory one c.loop.items.items c.args.count c.loop.counter c.loop.cur.rest c.in_err-t.field-0.0 (many_at one c.args.count c.args.cur.now.rest) c.loop-test.true refused c.loop.invariant.read)
 
 pub terms-loop-preserved : goal.terms-loop-preserved
 terms-loop-preserved t c =
@@ -32,7 +40,7 @@ terms-loop-preserved t c =
     let read : one c.loop.cur.rest ≡ Ok (c.in_ok-t.t, c.term.new.cur.rest) =
     subst (λ (end : ℕ). term_at end c.args.levels c.loop.cur.rest ≡ Ok (c.in_ok-t.t, c.term.new.cur.rest)) c.loop.invariant.same c.in_ok-t.ensures.read in
     record {
-      read = rw c.in_ok-push.ensures.ok (goes_on one c.loop.items c.args.count c.loop.counter c.loop.cur.rest c.term.new.cur.rest c.in_ok-t.t (many_at one c.args.count c.args.cur.now.rest) c.loop-test.true read c.loop.invariant.read);
+      read = rw c.in_ok-push.ensures.items (goes_on one c.loop.items.items c.args.count c.loop.counter c.loop.cur.rest c.term.new.cur.rest c.in_ok-t.t (many_at one c.args.count c.args.cur.now.rest) c.loop-test.true read c.loop.invariant.read);
       same = c.in_ok-t.ensures.end ∙ c.loop.invariant.same;
     }
 

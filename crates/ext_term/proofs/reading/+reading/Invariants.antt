@@ -25,12 +25,12 @@ decreases-tagged l = 5 * l.levels + 4
 
 abbrev pub invariant-terms-loop : goal.invariant-terms-loop
 invariant-terms-loop l = record {
-  read : with_front l.items (many_at (term_at (end_of l.fn.cur) l.levels) (l.count - l.counter) l.cur.rest) ≡ many_at (term_at (end_of l.fn.cur) l.levels) l.count l.fn.cur.rest;
+  read : with_front l.items.items (many_at (term_at (end_of l.fn.cur) l.levels) (l.count - l.counter) l.cur.rest) ≡ many_at (term_at (end_of l.fn.cur) l.levels) l.count l.fn.cur.rest;
   same : end_of l.cur ≡ end_of l.fn.cur;
 }
 
 abbrev pub invariant-pairs-loop : goal.invariant-pairs-loop
 invariant-pairs-loop l = record {
-  read : with_front l.pairs (many_at (pair_at (term_at (end_of l.fn.cur) l.levels)) (l.count - l.counter) l.cur.rest) ≡ many_at (pair_at (term_at (end_of l.fn.cur) l.levels)) l.count l.fn.cur.rest;
+  read : with_front l.pairs.items (many_at (pair_at (term_at (end_of l.fn.cur) l.levels)) (l.count - l.counter) l.cur.rest) ≡ many_at (pair_at (term_at (end_of l.fn.cur) l.levels)) l.count l.fn.cur.rest;
   same : end_of l.cur ≡ end_of l.fn.cur;
 }
