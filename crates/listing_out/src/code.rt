@@ -10,6 +10,9 @@ use bk_base::{Bytes, NoMemory};
 use code_chunk::CodeVal;
 use op_table::{Instr, op_row};
 
+/// Appends the lines of code to `out`: the line `code H L F E`, and one for each instruction, in order.
+///
+/// Where memory is wanting, a front of them may have been appended.
 pub(crate) fn put_code(out: &mut Bytes, code: &CodeVal) -> Result<(), NoMemory>
     ensures { OnOk result (out.new.items ≡ out.old.items ++ text_of (code_line code.now ∷ map instruction_line code.now.instrs)) }
 {

@@ -8,6 +8,9 @@ use crate::number::{put_hex, put_number};
 use bk_base::{Bytes, NoMemory};
 use compact_term::{Operand, Plain, Reg};
 
+/// Appends the text of an operand to `out`, its numbers in decimal.
+///
+/// Where memory is wanting, a front of it may have been appended.
 pub(crate) fn put_operand(out: &mut Bytes, operand: &Operand) -> Result<(), NoMemory>
     ensures { OnOk result (out.new.items ≡ out.old.items ++ operand_text operand.now) }
 {
