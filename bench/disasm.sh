@@ -8,8 +8,9 @@ top=$(CDPATH= cd -- "$(dirname -- "$0")/.." && pwd)
 folder=$(mktemp -d)
 trap 'rm -rf "$folder"' EXIT
 "$top/beamkit" info "$top/crates/beam_cli/data/sample.beam" >/dev/null
-python3 - "$top/crates/beam_cli/out/beam_cli" "$folder" <<'PYTHON'
-import os, struct, subprocess, sys, time
+PYTHONDONTWRITEBYTECODE=1 PYTHONPATH="$top/bench" python3 - "$top/crates/beam_cli/out/beam_cli" "$folder" <<'PYTHON'
+import os, struct, sys
+from measure import run
 
 program, folder = sys.argv[1:]
 U, I, A, X, Y, F, LIST, FLOAT, PAIRS, LITERAL, TYPED = 0, 1, 2, 3, 4, 5, 0x17, 0x27, 0x37, 0x47, 0x57
@@ -64,20 +65,6 @@ def form(path, size):
     with open(path, "wb") as file:
         file.write(b"FOR1" + struct.pack(">I", 12 + len(padded)) + b"BEAMCode" + struct.pack(">I", len(payload)) + padded)
     return len(payload)
-
-
-def run(words, output):
-    best, peak = None, 0
-    for _ in range(5):
-        with open(output, "wb") as file:
-            begin = time.perf_counter()
-            child = subprocess.Popen(words, stdout=file)
-            _, status, usage = os.wait4(child.pid, 0)
-            took = time.perf_counter() - begin
-        assert status == 0
-        best = took if best is None else min(best, took)
-        peak = max(peak, usage.ru_maxrss * 1024)
-    return best, peak
 
 
 once, twice, listing = (os.path.join(folder, name) for name in ("once.beam", "twice.beam", "listing"))

@@ -23,26 +23,16 @@ with open(sys.argv[1], "wb") as file:
 print(f"{count + 1} chunks")
 PYTHON
 # A process counts as its own the most memory that the one that starts it had then, so this one is small.
-python3 - "$top/crates/beam_cli/out/beam_cli" "$folder/large.beam" <<'PYTHON'
-import os, resource, subprocess, sys, time
+PYTHONDONTWRITEBYTECODE=1 PYTHONPATH="$top/bench" python3 - "$top/crates/beam_cli/out/beam_cli" "$folder/large.beam" <<'PYTHON'
+import os, sys
+from measure import run
 
 program, path = sys.argv[1:]
 size = os.path.getsize(path)
 
 
-def seconds(words):
-    best = None
-    for _ in range(9):
-        begin = time.perf_counter()
-        subprocess.run(words, stdout=subprocess.DEVNULL, check=True)
-        took = time.perf_counter() - begin
-        best = took if best is None else min(best, took)
-    return best
-
-
-own = seconds([program, "info", path])
-peak = resource.getrusage(resource.RUSAGE_CHILDREN).ru_maxrss * 1024
-other = seconds(["sha256sum", path])
+own, peak = run([program, "info", path], os.devnull, 9)
+other, _ = run(["sha256sum", path], os.devnull, 9)
 print(f"file {size} bytes")
 print(f"time {own:.4f} s, sha256sum {other:.4f} s, ratio {own / other:.2f}")
 print(f"memory {peak} bytes, ratio {peak / size:.2f}")

@@ -9,8 +9,9 @@ top=$(CDPATH= cd -- "$(dirname -- "$0")/.." && pwd)
 folder=$(mktemp -d)
 trap 'rm -rf "$folder"' EXIT
 "$top/beamkit" info "$top/crates/beam_cli/data/sample.beam" >/dev/null
-python3 - "$top/crates/beam_cli/out/beam_cli" "$folder" <<'PYTHON'
-import os, random, resource, struct, subprocess, sys, time
+PYTHONDONTWRITEBYTECODE=1 PYTHONPATH="$top/bench" python3 - "$top/crates/beam_cli/out/beam_cli" "$folder" <<'PYTHON'
+import os, random, resource, struct, sys
+from measure import apart, run
 
 program, folder = sys.argv[1:]
 chance = random.Random(1)
@@ -89,29 +90,6 @@ def form(path, size):
     padded = payload + bytes(-len(payload) % 4)
     with open(path, "wb") as file:
         file.write(b"FOR1" + struct.pack(">I", 12 + len(padded)) + b"BEAMLitT" + struct.pack(">I", len(payload)) + padded)
-
-
-# A program's peak is counted from that of the process that starts it, so another one makes the forms.
-def apart(make):
-    child = os.fork()
-    if child == 0:
-        make()
-        os._exit(0)
-    assert os.waitpid(child, 0)[1] == 0
-
-
-def run(words, output):
-    best, peak = None, 0
-    for _ in range(5):
-        with open(output, "wb") as file:
-            begin = time.perf_counter()
-            child = subprocess.Popen(words, stdout=file)
-            _, status, usage = os.wait4(child.pid, 0)
-            took = time.perf_counter() - begin
-        assert status == 0
-        best = took if best is None else min(best, took)
-        peak = max(peak, usage.ru_maxrss * 1024)
-    return best, peak
 
 
 path, listing = os.path.join(folder, "literals.beam"), os.path.join(folder, "listing")
