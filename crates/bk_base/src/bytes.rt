@@ -38,6 +38,7 @@ impl Bytes {
     pub fn push(&mut self, b: u8) -> Result<(), NoMemory>
         ensures ok { OnOk result (self.new.items ≡ self.old.items ++ b ∷ []) }
         ensures err { OnErr result (self.new.items ≡ self.old.items) }
+        ensures err_room { OnErr result (self.old.room ≤ self.new.room) }
         ensures reserved { OnErr result (self.old.room < 1) }
         ensures room { self.old.room ≤ self.new.room + 1 }
     {
@@ -49,6 +50,7 @@ impl Bytes {
     pub fn extend(&mut self, s: &[u8]) -> Result<(), NoMemory>
         ensures ok { OnOk result (self.new.items ≡ self.old.items ++ s.now) }
         ensures err { OnErr result (self.new.items ≡ self.old.items) }
+        ensures err_room { OnErr result (self.old.room ≤ self.new.room) }
         ensures reserved { OnErr result (self.old.room < length s.now) }
         ensures room { self.old.room ≤ self.new.room + length s.now }
     {
@@ -60,6 +62,7 @@ impl Bytes {
     pub fn reserve(&mut self, n: usize) -> Result<(), NoMemory>
         ensures items { self.new.items ≡ self.old.items }
         ensures ok { OnOk result (n ≤ self.new.room) }
+        ensures err_room { OnErr result (self.old.room ≤ self.new.room) }
         ensures reserved { OnErr result (self.old.room < n) }
         ensures room { self.old.room ≤ self.new.room }
     {

@@ -1,9 +1,10 @@
-//! What every crate of beamkit stands on: buffers, texts, lists of words, and a cursor over bytes.
+//! What every crate of beamkit stands on: buffers, texts, lists, and a cursor over bytes.
 #![tactic(auto)]
 
 mod byte_list;
 mod bytes;
 mod cursor;
+mod item_list;
 mod memory;
 mod text;
 mod word_list;
@@ -11,6 +12,7 @@ mod word_list;
 pub use byte_list::ByteList;
 pub use bytes::Bytes;
 pub use cursor::Cursor;
+pub use item_list::ItemList;
 pub use memory::NoMemory;
 pub use text::{Text, TextFault};
 pub use word_list::WordList;

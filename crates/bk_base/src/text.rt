@@ -4,7 +4,6 @@ ghost use Rattle.std.specs.Prelude.{◌≡◌, IfOk, OnOk, IsErrOf, string_bytes
 ghost use Rattle.std.specs.Str.{IsUtf8};
 ghost use Rattle.bk_base.specs.declared.text.TextFault.TheVariants as faults;
 
-use crate::memory::NoMemory;
 use std::alloc::{AllocError, Global};
 use std::marker::Model;
 use thiserror::Error;
@@ -36,14 +35,6 @@ impl From<AllocError> for TextFault {
     ghost from_gives = { λ _ e. e ≡ faults.NoMemory };
 
     fn from(_e: AllocError) -> TextFault {
-        TextFault::NoMemory
-    }
-}
-
-impl From<NoMemory> for TextFault {
-    ghost from_gives = { λ _ e. e ≡ faults.NoMemory };
-
-    fn from(_e: NoMemory) -> TextFault {
         TextFault::NoMemory
     }
 }

@@ -1,8 +1,7 @@
 -- Reading a count and as many numbered values.
-use Rattle.std.proofs.Common.{◌≡◌, ℕ, zero, suc, ◌+◌, ◌-◌, ◌^◌, ◌<◌, ◌≤◌, List, [], ◌∷◌, ◌++◌, length, All, Result, Ok, Err, refl, sym, ap, subst, ◌∙◌, append_assoc, arith, inl, inr}
-use Rattle.std.proofs.lemmas.List.{append-nil}
+use Rattle.std.proofs.Common.{◌≡◌, ℕ, zero, suc, ◌+◌, ◌-◌, ◌^◌, ◌<◌, List, [], ◌∷◌, ◌++◌, length, All, Result, Ok, Err, refl, sym, ap, subst, ◌∙◌, append_assoc, arith, inl, inr}
 use Rattle.std.proofs.lemmas.List.Elements.{All-nil, All-cons}
-use Rattle.bk_codec.specs.Reading.{◌>>=◌, giving, made_of, number_at, numbered_at, counted_at, Fails}
+use Rattle.bk_codec.specs.Reading.{◌>>=◌, made_of, number_at, numbered_at, counted_at, Fails}
 use Rattle.bk_codec.specs.Spelling.{IsBytes, Then, SpellsMany, SpellsWord, SpellsCounted}
 use Rattle.bk_codec.proofs.Steps.{bind_ok, made_ok, ok_is}
 use Rattle.bk_codec.proofs.Agreement.{Agrees, Takes, Takes-then, number_agrees}
@@ -76,14 +75,6 @@ count_ends memory one front n i k rest e whole lt (inr read) before =
     let count : n - i ≡ suc (n - (i + 1)) = omega arith in
     let step : numbered_at one k (n - i) rest ≡ Err e = rw (count, read) refl in
     inr (sym before ∙ ap (with_front front) step)
-
--- all values were read
-pub count_done : {E A : Type 0} (one : ℕ → List ℕ → Result (A × List ℕ) E) (front : List A) (n i k : ℕ) (rest : List ℕ) (whole : Result (List A × List ℕ) E)
-    → n ≤ i → with_front front (numbered_at one k (n - i) rest) ≡ whole → whole ≡ giving front rest
-count_done one front n i k rest whole le before =
-    let count : n - i ≡ 0 = omega arith in
-    let step : numbered_at one k (n - i) rest ≡ giving [] rest = rw count refl in
-    sym before ∙ ap (with_front front) step ∙ ap (λ (xs : List _). giving xs rest) (append-nil front)
 
 -- ---- what the values of a spelling have in common
 

@@ -1,16 +1,10 @@
 -- How many bytes a reading takes.
-use Rattle.std.proofs.Common.{◌≡◌, ℕ, ◌+◌, ◌≤◌, ltb, List, [], ◌∷◌, length, take, drop, Ok, Err, sym, ap, arith}
+use Rattle.std.proofs.Common.{◌≡◌, ℕ, ◌+◌, ◌≤◌, ltb, List, length, take, drop, Ok, Err, sym, ap, arith}
 use Rattle.std.proofs.lemmas.Bool.{ltb-false}
 use Rattle.std.proofs.lemmas.List.{length-drop}
 use Rattle.byteorder.specs.Endian.{big_number}
-use Rattle.bk_codec.specs.Reading.{giving, byte_at, bytes_at, number_at}
+use Rattle.bk_codec.specs.Reading.{giving, bytes_at, number_at}
 use Rattle.bk_codec.proofs.Steps.{ok_is, guard_err, guard_ok}
-
-pub byte_at-length : {E : Type 0} (cut : E) (bytes : List ℕ) (b : ℕ) (rest : List ℕ) → byte_at cut bytes ≡ Ok (b, rest) → length bytes ≡ length rest + 1
-byte_at-length cut [] b rest e = absurd cc
-byte_at-length {E} cut (c ∷ bytes) b rest e =
-    let is : bytes ≡ rest = ap (λ (p : ℕ × List ℕ). p.1) (ok_is {E = E} (c, bytes) (b, rest) e) in
-    omega (arith, ap length is)
 
 pub bytes_at-length : {E : Type 0} (cut : E) (n : ℕ) (bytes s rest : List ℕ) → bytes_at cut n bytes ≡ Ok (s, rest) → length bytes ≡ length rest + n
 bytes_at-length {E} cut n bytes s rest e =

@@ -11,3 +11,6 @@ pub mod ToTheEnd
 pub mod Keeps
 pub mod Stops
 pub mod Never
+pub mod Exact
+pub mod Steady
+pub mod Words

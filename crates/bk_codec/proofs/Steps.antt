@@ -1,6 +1,6 @@
 -- What a reading that succeeded says of its steps.
 use Rattle.std.proofs.Common.{◌≡◌, ◌⊎◌, ℕ, Bool, true, false, cond, List, Result, Ok, Err, refl, ap, inl, inr}
-use Rattle.bk_codec.specs.Reading.{◌>>=◌, made_of}
+use Rattle.bk_codec.specs.Reading.{◌>>=◌, made_of, refused_as}
 
 -- an answer, with its type
 abbrev passed : {E A : Type 0} → A → Result A E
@@ -66,3 +66,8 @@ guard_err false d x e h = absurd cc
 pub bind_same : {E A B : Type 0} (r : Result A E) (f g : A → Result B E) → ((x : A) → r ≡ Ok x → f x ≡ g x) → (r >>= f) ≡ (r >>= g)
 bind_same (Ok x) f g same = same x refl
 bind_same (Err d) f g same = refl
+
+-- what was read, where its refusal would be one of another kind
+pub refused_as_ok : {A D E : Type 0} (why : D → E) (r : Result A D) (x : A) → refused_as why r ≡ Ok x → r ≡ Ok x
+refused_as_ok {A} {D} {E} why (Ok y) x h = let same : y ≡ x = ok_is {E = E} y x h in ap (λ (z : A). Ok z) same
+refused_as_ok why (Err d) x h = absurd cc

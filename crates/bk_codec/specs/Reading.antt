@@ -1,5 +1,6 @@
 -- How bytes are read from the front: the value that stands there with the bytes after it, or a refusal.
 use Rattle.std.specs.Prelude.{◌≡◌, ◌⊎◌, ℕ, zero, suc, List, [], ◌∷◌, length, take, drop, nat_lt, if◌then◌else◌, Result, Ok, Err}
+use Rattle.std.specs.Str.{is_utf8}
 use Rattle.byteorder.specs.Endian.{big_number}
 
 -- one step, and then the next at what the first gave
@@ -16,6 +17,11 @@ giving x rest = Ok (x, rest)
 abbrev pub made_of : {E A B : Type 0} → (A → B) → Result (A × List ℕ) E → Result (B × List ℕ) E
 made_of f read = read >>= λ x. giving (f x.0) x.1
 
+-- what was read, or the refusal as one of another kind
+abbrev pub refused_as : {A D E : Type 0} → (D → E) → Result A D → Result A E
+refused_as why (Ok x) = Ok x
+refused_as why (Err e) = Err (why e)
+
 -- one byte; `cut` where there is none
 abbrev pub byte_at : {E : Type 0} → E → List ℕ → Result (ℕ × List ℕ) E
 byte_at cut [] = Err cut
@@ -28,6 +34,10 @@ bytes_at cut n bytes = if nat_lt (length bytes) n then Err cut else giving (take
 -- the number in n bytes, the highest first; `cut` where there are fewer
 abbrev pub number_at : {E : Type 0} → E → ℕ → List ℕ → Result (ℕ × List ℕ) E
 number_at cut n bytes = if nat_lt (length bytes) n then Err cut else giving (big_number n bytes) (drop n bytes)
+
+-- the bytes of a text; `bad` where they are not UTF-8
+abbrev pub utf8_or : {E : Type 0} → E → List ℕ → Result (List ℕ) E
+utf8_or bad bytes = if is_utf8 bytes then Ok bytes else Err bad
 
 -- as many values as a count says
 abbrev pub many_at : {E A : Type 0} → (List ℕ → Result (A × List ℕ) E) → ℕ → List ℕ → Result (List A × List ℕ) E
@@ -75,3 +85,8 @@ Gives memory view rest (Err e) read = Fails memory e read
 abbrev pub GivesAll : {E A B : Type 0} → E → (A → B) → Result A E → Result B E → Type 0
 GivesAll memory view (Ok x) read = read ≡ Ok (view x)
 GivesAll memory view (Err e) read = Fails memory e read
+
+-- a call that takes no memory and leaves `rest` answered just what the reading gives
+abbrev pub Reads : {E A B : Type 0} → (A → B) → List ℕ → Result A E → Result (B × List ℕ) E → Type 0
+Reads view rest (Ok x) read = read ≡ giving (view x) rest
+Reads view rest (Err e) read = read ≡ Err e
