@@ -22,6 +22,6 @@ left_more n m bytes buf held old before left is more few =
     (grind (arith, length-append, length-take))
 
 -- a read of a buffer that was cut to what may still be read
-pub within : (have len room count : ℕ) (piece buf : List ℕ) → count ≤ length buf → length buf ≡ length (take room piece) → room ≡ min 65536 (16777217 - len) → len ≡ have → have ≤ 16777216 → have + count ≤ 16777217
-within have len room count piece buf bound cut is_room is_len size =
+pub within : (most have len room count : ℕ) (piece buf : List ℕ) → count ≤ length buf → length buf ≡ length (take room piece) → room ≡ min 65536 (most + 1 - len) → len ≡ have → have ≤ most → have + count ≤ most + 1
+within most have len room count piece buf bound cut is_room is_len size =
     let fits : length (take room piece) ≤ room = grind (arith, length-take) in omega (arith, bound, cut, is_room, is_len, size, fits)

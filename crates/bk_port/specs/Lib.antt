@@ -3,6 +3,6 @@ pub mod Known
 pub mod Listed
 pub mod Reading
 pub mod Script
-pub mod Source
 pub mod Store
+pub mod System
 pub mod Writing

@@ -1,7 +1,7 @@
 -- What a host and a sink that fail at given calls are seen as.
-use Rattle.std.specs.Prelude.{◌≡◌, ℕ, ◌<◌, ◌⊎◌, false, List, length, drop, Option}
+use Rattle.std.specs.Prelude.{◌≡◌, ℕ, ◌<◌, ◌⊎◌, false, List, length, Option}
 use Rattle.std.specs.List.{Contains}
-use Rattle.bk_port.specs.Listed.{bytes_at, is_listed}
+use Rattle.bk_port.specs.Listed.{is_listed, rest_at}
 
 -- the bytes that were written and how many more it takes; the most bytes that one write takes, the
 -- number of the write that fails, how many writes there were, and how many failed
@@ -30,7 +30,7 @@ pub record ScriptFiles : Type 0 where
 
 -- what is left of the started file
 abbrev pub rest_of : ScriptFiles → List ℕ
-rest_of host = drop host.at (bytes_at host.files host.place)
+rest_of host = rest_at host.files host.place host.at
 
 -- the call of this number on this name fails: the script lists it, or no file has the name
 abbrev pub CallFails : ScriptFiles → ℕ → List ℕ → Type 0

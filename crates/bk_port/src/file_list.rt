@@ -4,14 +4,14 @@ ghost use Rattle.bk_port.specs.Listed.{bytes_held, bytes_at, is_listed};
 ghost use Rattle.std.specs.Option.{is_some};
 ghost use Rattle.std.specs.Prelude.{◌≡◌, ◌↔◌, [], ◌∷◌, ◌++◌, length, slice_get, IsTrue, OnOk, OnErr, option_copied};
 
-use bk_base::{ByteList, Bytes, NoMemory, Text};
+use bk_base::{ByteList, Bytes, ItemList, NoMemory, Text};
 use std::alloc::Global;
 use std::marker::Model;
 
 /// Named files in order, which contracts see as the list of the names' and the files' bytes.
 #[derive(Debug, Drop)]
 pub struct FileList {
-    files: Vec<(Text, ByteList)>,
+    files: ItemList<(Text, ByteList)>,
 }
 
 impl Model for FileList {
@@ -20,7 +20,7 @@ impl Model for FileList {
 
     ghost Value = { List (List ℕ × List ℕ) };
 
-    ghost view = { λ l. l.files.items };
+    ghost view = { λ l. l.files };
 }
 
 impl FileList {
@@ -29,7 +29,7 @@ impl FileList {
         ensures { result ≡ [] }
     {
         FileList {
-            files: Vec::new(alloc),
+            files: ItemList::new(alloc),
         }
     }
 
@@ -38,8 +38,7 @@ impl FileList {
         ensures ok { OnOk result (self.new ≡ self.old ++ (name, bytes.items) ∷ []) }
         ensures err { OnErr result (self.new ≡ self.old) }
     {
-        self.files.push((name, ByteList::from(bytes)))?;
-        Ok(())
+        self.files.push((name, ByteList::from(bytes)))
     }
 
     /// File `i`, counted from 0: its name and its bytes.
@@ -54,7 +53,7 @@ impl FileList {
         ensures bytes { bytes_at self.now result ≡ bytes_held self.now name.now }
         ensures listed { is_some result ≡ is_listed self.now name.now }
     {
-        for (place, (listed, _)) in self.files.iter().enumerate() {
+        for (place, (listed, _)) in self.files.as_slice().iter().enumerate() {
             if listed.as_bytes() == name.as_bytes() {
                 return Some(place);
             }

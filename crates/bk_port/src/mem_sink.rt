@@ -2,6 +2,7 @@
 
 ghost use Rattle.std.specs.Prelude.{ℕ, ◌≡◌, ◌+◌, ◌<◌, min, List, [], Option, Some, length, IsOk, IfOk, OnErr};
 ghost use Rattle.bk_port.specs.Causes.{HasCause};
+ghost use Rattle.bk_port.specs.Reading.{counted};
 ghost use Rattle.bk_port.specs.Writing.{Writes};
 
 use crate::host::Failed;
@@ -71,7 +72,8 @@ impl Sink for MemSink {
         ensures taken { IfOk result (λ n. n ≡ min (length buf.now) self.old.room) }
         ensures room { IfOk result (λ n. self.new.room + n ≡ self.old.room) }
         ensures err_room { OnErr result (self.new.room ≡ self.old.room) }
-        ensures counted { IfOk result (λ _. self.new.faults ≡ self.old.faults) }
+        ensures faults { IfOk result (λ _. self.new.faults ≡ self.old.faults) }
+        ensures err_faults { OnErr result (self.new.faults ≡ counted self.old.faults 1) }
     {
         if buf.is_empty() {
             return Ok(0);

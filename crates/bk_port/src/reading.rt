@@ -1,6 +1,6 @@
 //! Reading a whole file.
 
-ghost use Rattle.std.specs.Prelude.{ℕ, ◌≡◌, ◌<◌, ◌≤◌, ◌⊎◌, List, length, IfOk, IfSome, IsErrOf};
+ghost use Rattle.std.specs.Prelude.{ℕ, ◌≡◌, ◌+◌, ◌<◌, ◌≤◌, ◌⊎◌, List, length, IfOk, IfSome, IsErrOf};
 ghost use Rattle.bk_port.specs.Causes.{Rose};
 ghost use Rattle.bk_port.specs.Reading.{IsLeftAfter, HasReadAtMost};
 
@@ -20,7 +20,7 @@ const PIECE: usize = 65_536;
 pub enum LoadFault {
     #[error("the file could not be read")]
     ReadFault,
-    #[error("the file has more than 16777216 bytes")]
+    #[error("the file has more than {} bytes", MOST_BYTES)]
     TooLarge,
     #[error("out of memory")]
     NoMemory,
@@ -32,16 +32,16 @@ pub enum LoadFault {
 /// exactly where one byte more than [`MOST_BYTES`] was read; it never reads further.
 pub fn load<H: Host>(alloc: Global, host: &mut H, name: &Text) -> Result<Bytes, LoadFault>
     ensures whole { IfOk result (λ bytes. IfSome (H.holds host.old name.now) (λ all. bytes.items ≡ all)) }
-    ensures size { IfOk result (λ bytes. (length bytes.items ≤ 16777216) × (H.count host.new ≡ length bytes.items)) }
+    ensures size { IfOk result (λ bytes. (length bytes.items ≤ MOST_BYTES) × (H.count host.new ≡ length bytes.items)) }
     ensures read_fault { IsErrOf result LoadFault.ReadFault →
         Rose (H.faults host.old name.now) (H.faults host.new name.now) }
-    ensures too_large { IsErrOf result LoadFault.TooLarge → H.count host.new ≡ 16777217 }
+    ensures too_large { IsErrOf result LoadFault.TooLarge → H.count host.new ≡ MOST_BYTES + 1 }
     ensures not_too_large { IsErrOf result LoadFault.TooLarge ⊎
-        HasReadAtMost 16777216 (H.count host.old) (H.count host.new) }
+        HasReadAtMost MOST_BYTES (H.count host.old) (H.count host.new) }
     ensures too_large_known { IsErrOf result LoadFault.TooLarge →
-        IfSome (H.holds host.old name.now) (λ all. 16777216 < length all) }
-    ensures no_memory { IsErrOf result LoadFault.NoMemory → H.count host.new ≤ 16777216 }
-    ensures left { IsLeftAfter 16777217 (H.holds host.old name.now) (H.left host.old) (H.left host.new) }
+        IfSome (H.holds host.old name.now) (λ all. MOST_BYTES < length all) }
+    ensures no_memory { IsErrOf result LoadFault.NoMemory → H.count host.new ≤ MOST_BYTES }
+    ensures left { IsLeftAfter (MOST_BYTES + 1) (H.holds host.old name.now) (H.left host.old) (H.left host.new) }
     ensures holds { (n : List ℕ) → H.holds host.new n ≡ H.holds host.old n }
     ensures later { (n : List ℕ) → H.faults host.old n ≤ H.faults host.new n }
 {

@@ -9,9 +9,11 @@ ghost use Rattle.bk_port.specs.Script.{CallFails, SameScript, rest_of};
 
 use crate::file_list::FileList;
 use crate::host::{Failed, Host};
-use crate::number_list::NumberList;
-use bk_base::Text;
+use bk_base::{ItemList, Text};
 use std::marker::Model;
+
+/// Numbers in order, such as those of the calls that fail.
+pub type NumberList = ItemList<u64>;
 
 // Which calls fail, how many there were, and how many failed.
 #[derive(Debug, Drop)]
@@ -34,7 +36,7 @@ impl Script {
         ensures same { self.new.fails ≡ self.old.fails }
     {
         self.calls = self.calls.saturating_add(1);
-        if !self.fails.contains(self.calls)
+        if !self.fails.as_slice().contains(&self.calls)
             && let Some(place) = place
         {
             return Ok(place);
@@ -81,6 +83,7 @@ impl ScriptHost {
         ensures new { result ≡ record { files = files; fails = fails; piece = piece; place = None; at = 0; calls = 0; faults = 0 } }
         ensures holds { (n : List ℕ) → ⟦<ScriptHost as Host>⟧.holds result n ≡ Some (bytes_held files n) }
         ensures count { ⟦<ScriptHost as Host>⟧.count result ≡ 0 }
+        ensures is_started { (n : List ℕ) → ¬ ⟦<ScriptHost as Host>⟧.is_started result n }
     {
         ScriptHost {
             files,

@@ -24,7 +24,7 @@ pub trait Sink {
     /// Writes a front part of `buf`, at least one byte of one that is not empty, and says how many.
     ///
     /// An empty buffer is never refused. It fails only where the faults rose in this call, and then
-    /// nothing of `buf` was written.
+    /// what was written is as before, where the type tells it.
     fn write(&mut self, buf: &[u8]) -> Result<usize, Failed>
         ensures written { IfOk result (Writes (written self.old) (written self.new) buf.now) }
         ensures err { OnErr result (written self.new ≡ written self.old) }

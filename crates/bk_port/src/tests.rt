@@ -83,15 +83,24 @@ fn sinks_follow_a_script(rt: HostRuntime) -> Result<(), Fail> {
 }
 
 #[test]
-fn files_are_read(rt: HostRuntime) -> Result<(), Fail> {
+fn files_and_input_are_read(rt: HostRuntime) -> Result<(), Fail> {
     let folder = env::temp_dir(&rt)?;
     let own = process::id(rt.process());
     let path = format!(in rt.alloc(); "{}/bk_port_{own}", folder.as_str())?;
     let name = Text::from_bytes(rt.alloc(), path.as_bytes())?;
     fs::write(&rt, &path, "some bytes")?;
-    let mut host = FileHost::new(rt);
-    let loaded = load(rt.alloc(), &mut host, &name)?;
-    assert_eq!(rt; loaded.as_slice(), b"some bytes".as_slice());
+    let input = Text::from_bytes(rt.alloc(), b"-")?;
+    let mut host = FileHost::new(rt, Cursor::new(*b"what is piped in"));
+    // Standard input is read once, and then it is at its end.
+    for (name, contents) in [
+        (&name, "some bytes"),
+        (&input, "what is piped in"),
+        (&name, "some bytes"),
+        (&input, ""),
+    ] {
+        let loaded = load(rt.alloc(), &mut host, name)?;
+        assert_eq!(rt; loaded.as_slice(), contents.as_bytes(), "at {name:?}");
+    }
     fs::remove_file(&rt, &path)?;
     let missing = load(rt.alloc(), &mut host, &name);
     assert!(rt; matches!(&missing, Err(LoadFault::ReadFault)));
