@@ -1,6 +1,7 @@
 -- What was read from the front of bytes.
 use Rattle.std.proofs.Common.{◌≡◌, ℕ, ◌-◌, ◌≤◌, List, ◌++◌, length, drop, Ok, sym, ap, subst, ◌∙◌, arith, length-append, ◌+◌, inl, inr}
 use Rattle.std.proofs.lemmas.List.{append_cancel_right, drop_at}
+use Rattle.bk_codec.specs.Exact.{Begins}
 use Rattle.bk_codec.specs.Reading.{Fails}
 use Rattle.bk_codec.specs.Spelling.{IsBytes}
 use Rattle.bk_codec.proofs.Agreement.{IsBytes-front, one_form}
@@ -8,15 +9,16 @@ use Rattle.compact_term.specs.declared.refusal.OperandRefusal.{OperandRefusal}
 use Rattle.compact_term.specs.declared.refusal.OperandRefusal.TheVariants.{NoMemory}
 use Rattle.compact_term.specs.declared.operand.Operand.{Operand}
 use Rattle.compact_term.specs.Spelling.{Spells}
-use Rattle.compact_term.specs.Operand.{IsOperand}
-use Rattle.compact_term.specs.Reading.{operand_at, Begins}
+use Rattle.compact_term.specs.Operand.{MeetsType, IsProper}
+use Rattle.compact_term.specs.Reading.{operand_at}
 use Rattle.compact_term.proofs.Operands.{operand_agrees}
-use Rattle.compact_term.proofs.Proper.{operand_proper}
+use Rattle.compact_term.proofs.Proper.{operand_meets_type, operand_proper}
 
 -- an operand was read, and this is left
 pub record WasRead (o : Operand) (bytes rest : List ℕ) : Type 0 where
-  pub begins : Begins o (length bytes - length rest) bytes
-  pub proper : IsOperand o
+  pub begins : Begins (Spells o) bytes rest
+  pub proper : IsProper o
+  pub meets_type : MeetsType o
   pub shorter : length rest ≤ length bytes
   pub left : rest ≡ drop (length bytes - length rest) bytes
 
@@ -25,15 +27,16 @@ was_read bytes o rest fits e =
     let took = operand_agrees.takes bytes o rest fits e in
     let lengths : length bytes ≡ length took.text + length rest = ap length took.joined ∙ length-append took.text rest in
     record {
-      begins = record { text = took.text; rest = rest; spelt = took.is; size = omega arith; joined = took.joined };
-      proper = operand_proper o took.text (IsBytes-front took.text rest (subst IsBytes took.joined fits)) took.is;
+      begins = record { text = took.text; is = took.is; joined = took.joined };
+      proper = operand_proper o took.text took.is;
+      meets_type = operand_meets_type o took.text (IsBytes-front took.text rest (subst IsBytes took.joined fits)) took.is;
       shorter = omega arith;
       left = sym (ap (drop (length bytes - length rest)) took.joined ∙ drop_at took.text rest (length bytes - length rest) (omega arith));
     }
 
 -- a front that is spelled is the one that was read
-pub same_operand : (o p : Operand) (len : ℕ) (text more bytes : List ℕ) → Begins p len bytes → Spells o text → bytes ≡ text ++ more → p ≡ o
-same_operand o p len text more bytes begins spelt is = (one_form operand_agrees p o begins.text text begins.rest more begins.spelt spelt (sym begins.joined ∙ is)).0
+pub same_operand : (o p : Operand) (text more bytes rest : List ℕ) → Begins (Spells p) bytes rest → Spells o text → bytes ≡ text ++ more → p ≡ o
+same_operand o p text more bytes rest begins spelt is = (one_form operand_agrees p o begins.text text rest more begins.is spelt (sym begins.joined ∙ is)).0
 
 -- where a front is spelled, only memory is wanting
 pub only_memory : (o : Operand) (text more bytes : List ℕ) (e : OperandRefusal) → Fails NoMemory e (operand_at bytes) → Spells o text → bytes ≡ text ++ more → e ≡ NoMemory

@@ -6,3 +6,4 @@ pub mod Proper
 pub mod Fronts
 pub mod Keeping
 pub mod Memory
+pub mod Steadiness

@@ -1,9 +1,7 @@
 -- How an operand is read from the left, and which refusal comes first where none is spelled there.
-use Rattle.std.specs.Prelude.{ℕ, ◌+◌, ◌*◌, ◌/◌, ◌%◌, ◌^◌, ℤ, pos, negsuc, List, ◌++◌, length, ◌≡◌, ◌==◌, nat_lt, if◌then◌else◌, Result, Ok, Err}
-use Rattle.bk_base.specs.Place.{Place}
+use Rattle.std.specs.Prelude.{ℕ, ◌+◌, ◌*◌, ◌/◌, ◌%◌, ◌^◌, ℤ, pos, negsuc, List, ◌==◌, nat_lt, if◌then◌else◌, Result, Ok, Err}
 use Rattle.byteorder.specs.Endian.{twos_complement}
 use Rattle.bk_codec.specs.Reading.{◌>>=◌, giving, made_of, byte_at, bytes_at, number_at, many_at}
-use Rattle.compact_term.specs.Spelling.{Spells}
 use Rattle.compact_term.specs.declared.operand.Reg.{Reg}
 use Rattle.compact_term.specs.declared.operand.Reg.TheVariants as regs
 use Rattle.compact_term.specs.declared.operand.Plain.{Plain}
@@ -115,18 +113,3 @@ operand_of heads.Alloc bytes = u_at bytes >>= λ n. made_of operands.Alloc (many
 -- the operand at the front of the bytes, with the bytes behind it, or the first refusal from the left
 unfoldable pub operand_at : List ℕ → Result (Operand × List ℕ) OperandRefusal
 operand_at bytes = head_at bytes >>= λ head. operand_of head.0 head.1
-
--- the bytes begin with a spelling of the operand of this length
-pub record Begins (o : Operand) (len : ℕ) (bytes : List ℕ) : Type 0 where
-  pub text : List ℕ
-  pub rest : List ℕ
-  pub spelt : Spells o text
-  pub size : length text ≡ len
-  pub joined : bytes ≡ text ++ rest
-
--- a reader stood before a spelling of the operand, and stands behind it
-pub record Reads (o : Operand) (old new : Place) : Type 0 where
-  pub text : List ℕ
-  pub spelt : Spells o text
-  pub joined : old.rest ≡ text ++ new.rest
-  pub moved : new.offset ≡ old.offset + length text

@@ -16,12 +16,12 @@ const HALF: u128 = 1 << 64;
 /// It is kept in two halves, since an `i128` has to stand at a multiple of 16, and would make each
 /// operand of each instruction larger by half.
 #[derive(Drop)]
-pub struct Integer {
+pub struct Integer128 {
     high: u64,
     low: u64,
 }
 
-impl Model for Integer {
+impl Model for Integer128 {
     ghost use Rattle.std.specs.Prelude.{ℤ, ◌+◌, ◌*◌, ◌^◌};
     ghost use Rattle.std.specs.Int.{cast_signed, w128};
 
@@ -30,7 +30,7 @@ impl Model for Integer {
     ghost view = { λ i. cast_signed w128 (i.high * 2 ^ 64 + i.low) };
 }
 
-impl Integer {
+impl Integer128 {
     /// The number.
     pub fn value(&self) -> i128
         ensures { result ≡ self.now }
@@ -39,19 +39,19 @@ impl Integer {
     }
 }
 
-impl From<i128> for Integer {
+impl From<i128> for Integer128 {
     ghost from_gives = { λ z i. i ≡ z };
 
-    fn from(z: i128) -> Integer {
+    fn from(z: i128) -> Integer128 {
         let bits = z.cast_unsigned();
-        Integer {
+        Integer128 {
             high: (bits / HALF) as u64,
             low: (bits % HALF) as u64,
         }
     }
 }
 
-impl fmt::Debug for Integer {
+impl fmt::Debug for Integer128 {
     fn fmt<W: fmt::Write>(&self, f: &mut fmt::Formatter<W>) -> fmt::Result {
         self.value().fmt(f)
     }

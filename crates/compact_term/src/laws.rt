@@ -1,8 +1,28 @@
 //! What holds of the spellings of operands.
 
 ghost use Rattle.std.specs.Prelude.{◌≡◌, ℕ, ◌++◌, List};
+ghost use Rattle.bk_codec.specs.Exact.{IsExactInFront, RefusalsStand, FrontsAreCut};
 ghost use Rattle.compact_term.specs.declared.operand.Operand.{Operand};
 ghost use Rattle.compact_term.specs.Spelling.{Spells};
+ghost use Rattle.compact_term.specs.Reading.{operand_at};
+
+use crate::refusal::OperandRefusal;
+
+/// The reading from the left gives an operand exactly where the operand is spelled at the front, with
+/// the bytes behind it, and refuses exactly where no operand is spelled there.
+pub fn reading_is_exact()
+    ensures { IsExactInFront operand_at Spells }
+{}
+
+/// A refusal other than `Cut` stands, whatever bytes follow.
+pub fn refusals_stand()
+    ensures { RefusalsStand OperandRefusal.Cut operand_at }
+{}
+
+/// A front of a spelling that ends before its end is refused as `Cut`.
+pub fn fronts_are_cut()
+    ensures { FrontsAreCut OperandRefusal.Cut operand_at Spells }
+{}
 
 /// No spelling of an operand begins another one, and each is of one operand.
 pub fn one_form()

@@ -9,8 +9,8 @@ mod operand;
 mod reader;
 mod refusal;
 
-pub use integer::{Integer, WideInteger};
-pub use laws::one_form;
+pub use integer::{Integer128, WideInteger};
+pub use laws::{fronts_are_cut, one_form, reading_is_exact, refusals_stand};
 pub use list::{PairList, PlainList};
 pub use operand::{Operand, Plain, Reg};
 pub use reader::read_operand;

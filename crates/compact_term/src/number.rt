@@ -1,6 +1,6 @@
 //! Numbers in compact form, behind their first byte.
 
-ghost use Rattle.std.specs.Prelude.{◌≡◌, ◌+◌, ◌^◌, ◌<◌, ◌≤◌, ◌%◌, IfOk};
+ghost use Rattle.std.specs.Prelude.{◌≡◌, ◌+◌, ◌<◌, ◌≤◌, ◌%◌, IfOk};
 ghost use Rattle.byteorder.specs.Endian.{twos_complement};
 ghost use Rattle.bk_codec.specs.Reading.{Gives, made_of, number_at};
 ghost use Rattle.compact_term.specs.Reading.{short_at, natural, length_at, whole_at, below_at};

@@ -1,6 +1,6 @@
 //! What operands are.
 
-use crate::integer::{Integer, WideInteger};
+use crate::integer::{Integer128, WideInteger};
 use crate::list::{PairList, PlainList};
 
 /// A register of the machine.
@@ -18,7 +18,7 @@ pub enum Plain {
     /// A number without sign.
     U(u64),
     /// An integer of at most 16 bytes.
-    I(Integer),
+    I(Integer128),
     /// An integer of 17 bytes or more.
     Wide(WideInteger),
     /// The number of an atom; 0 is the empty list.

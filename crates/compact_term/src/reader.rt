@@ -1,13 +1,15 @@
 //! Reading an operand.
 
 ghost use Rattle.std.specs.Prelude.{◌≡◌, ◌⊎◌, ℕ, ◌<◌, ◌≤◌, ◌^◌, ◌%◌, ◌++◌, List, length, drop, Ok, Err, IfOk, IfErr, OnErr};
+ghost use Rattle.bk_base.specs.Place.{end_of};
+ghost use Rattle.bk_codec.specs.Exact.{Begins};
 ghost use Rattle.bk_codec.specs.Reading.{Gives, Fails, many_at};
 ghost use Rattle.compact_term.specs.declared.operand.Operand.{Operand};
 ghost use Rattle.compact_term.specs.Spelling.{Spells};
-ghost use Rattle.compact_term.specs.Operand.{IsOperand};
-ghost use Rattle.compact_term.specs.Reading.{below_at, integer_at, u_at, reg_at, extended_by, tagged, head_at, member_at, pair_at, operand_at, Begins, Reads};
+ghost use Rattle.compact_term.specs.Operand.{MeetsType, IsProper};
+ghost use Rattle.compact_term.specs.Reading.{below_at, integer_at, u_at, reg_at, extended_by, tagged, head_at, member_at, pair_at, operand_at};
 
-use crate::integer::{Integer, WideInteger};
+use crate::integer::{Integer128, WideInteger};
 use crate::list::{PairList, PlainList};
 use crate::number::{LONG, MOST_BYTES, at_most, length, long, short};
 use crate::operand::{Operand, Plain, Reg};
@@ -30,7 +32,7 @@ fn integer(alloc: Global, cur: &mut Cursor<'_>, first: u8) -> Result<Plain, Oper
 {
     if first < LONG {
         let z = short(cur, first)?;
-        return Ok(Plain::I(Integer::from(i128::from(z))));
+        return Ok(Plain::I(Integer128::from(i128::from(z))));
     }
     let n = length(cur)?;
     if n > MOST_BYTES {
@@ -39,7 +41,7 @@ fn integer(alloc: Global, cur: &mut Cursor<'_>, first: u8) -> Result<Plain, Oper
         return Ok(Plain::Wide(WideInteger::new(alloc, list)?));
     }
     let z = long(cur, n)?;
-    Ok(Plain::I(Integer::from(z)))
+    Ok(Plain::I(Integer128::from(z)))
 }
 
 // A term of tag `u`.
@@ -188,8 +190,10 @@ fn whole_operand(alloc: Global, cur: &mut Cursor<'_>) -> Result<Operand, Operand
 
 // The operand at the front of the bytes, and how many of them spell it.
 fn front(alloc: Global, bytes: &[u8]) -> Result<(Operand, usize), OperandRefusal>
-    ensures found { IfOk result (λ r. Begins r.0 r.1 bytes.now) }
-    ensures proper { IfOk result (λ r. IsOperand r.0) }
+    ensures found { IfOk result (λ r. Begins (Spells r.0) bytes.now (drop r.1 bytes.now)) }
+    ensures within { IfOk result (λ r. r.1 ≤ length bytes.now) }
+    ensures proper { IfOk result (λ r. IsProper r.0) }
+    ensures meets_type { IfOk result (λ r. MeetsType r.0) }
     ensures read { IfOk result (λ r. operand_at bytes.now ≡ Ok (r.0, drop r.1 bytes.now)) }
     ensures refused { IfErr result (λ e. Fails OperandRefusal.NoMemory e (operand_at bytes.now)) }
 {
@@ -208,8 +212,10 @@ fn front(alloc: Global, bytes: &[u8]) -> Result<(Operand, usize), OperandRefusal
 /// after its bytes.
 pub fn read_operand(alloc: Global, cur: &mut Cursor<'_>) -> Result<Operand, OperandRefusal>
     // What was read is spelled there, and the cursor is just behind it.
-    ensures found { IfOk result (λ o. Reads o cur.old cur.new) }
-    ensures proper { IfOk result IsOperand }
+    ensures found { IfOk result (λ o. Begins (Spells o) cur.old.rest cur.new.rest) }
+    ensures end { end_of cur.new ≡ end_of cur.old }
+    ensures proper { IfOk result IsProper }
+    ensures meets_type { IfOk result MeetsType }
 
     // What is spelled there is read, unless memory runs out.
     ensures only { (o : Operand) (text more : List ℕ) → Spells o text → cur.old.rest ≡ text ++ more

@@ -4,7 +4,6 @@ ghost use Rattle.std.specs.Prelude.{◌≡◌};
 ghost use Rattle.compact_term.specs.declared.refusal.OperandRefusal.TheVariants as refusals;
 
 use bk_base::NoMemory;
-use std::alloc::{AllocError, AllocFailed};
 use thiserror::Error;
 
 /// What is wrong with bytes that begin no operand: the first such thing from the left.
@@ -37,22 +36,6 @@ impl From<NoMemory> for OperandRefusal {
     ghost from_gives = { λ _ e. e ≡ refusals.NoMemory };
 
     fn from(_e: NoMemory) -> OperandRefusal {
-        OperandRefusal::NoMemory
-    }
-}
-
-impl From<AllocError> for OperandRefusal {
-    ghost from_gives = { λ _ e. e ≡ refusals.NoMemory };
-
-    fn from(_e: AllocError) -> OperandRefusal {
-        OperandRefusal::NoMemory
-    }
-}
-
-impl<T: Drop> From<AllocFailed<T>> for OperandRefusal {
-    ghost from_gives = { λ _ e. e ≡ refusals.NoMemory };
-
-    fn from(_e: AllocFailed<T>) -> OperandRefusal {
         OperandRefusal::NoMemory
     }
 }

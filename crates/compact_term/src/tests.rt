@@ -1,9 +1,9 @@
 use super::*;
-use bk_base::{ByteList, Cursor, NoMemory};
+use bk_base::{ByteList, Bytes, Cursor, NoMemory};
 use std::test::Fail;
 
 // Each spelling with what it reads as, which takes all of its bytes, or its refusal, which moves nothing.
-const OPERANDS: [(&[u8], &str); 25] = [
+const OPERANDS: [(&[u8], &str); 26] = [
     (&[0xf1], "Ok(One(I(15)))"),
     (&[0x09, 0x10], "Ok(One(I(16)))"),
     (&[0xe9, 0xff], "Ok(One(I(2047)))"),
@@ -35,6 +35,13 @@ const OPERANDS: [(&[u8], &str); 25] = [
         ],
         "Err(Cut)",
     ),
+    // an allocation list of 2 ^ 64 - 1 pairs, none of which is there
+    (
+        &[
+            0x37, 0xf8, 0x00, 0x00, 0xff, 0xff, 0xff, 0xff, 0xff, 0xff, 0xff, 0xff,
+        ],
+        "Err(Cut)",
+    ),
 ];
 
 #[test]
@@ -52,7 +59,6 @@ fn operands_are_read(rt: HostRuntime) -> Result<(), Fail> {
 
 #[test]
 fn operands_with_parts_are_read(rt: HostRuntime) -> Result<(), Fail> {
-    one_form();
     let wide: [u8; 19] = [
         0xf9, 0x80, 1, 2, 3, 4, 5, 6, 7, 8, 9, 10, 11, 12, 13, 14, 15, 16, 17,
     ];
@@ -83,9 +89,30 @@ fn operands_with_parts_are_read(rt: HostRuntime) -> Result<(), Fail> {
 }
 
 #[test]
+fn a_list_of_300_members_is_read(rt: HostRuntime) -> Result<(), Fail> {
+    let mut bytes = Bytes::new(rt.alloc());
+    bytes.extend(&[0x17, 0x28, 0x2c])?;
+    // the numbers from 0, each in two bytes
+    for i in 0..300u64 {
+        let first = if i < 256 { 0x08 } else { 0x28 };
+        bytes.extend(&[first, (i % 256) as u8])?;
+    }
+    match read_operand(rt.alloc(), &mut Cursor::new(bytes.as_slice()))? {
+        Operand::List(list) => {
+            assert_eq!(rt; list.len(), 300);
+            for (i, member) in list.as_slice().iter().enumerate() {
+                assert!(rt; matches!(member, Plain::U(n) if *n == i as u64));
+            }
+        }
+        _ => return Err("no list".into()),
+    }
+    Ok(())
+}
+
+#[test]
 fn integers_hold_their_values(rt: HostRuntime) -> Result<(), Fail> {
     for z in [0, -1, i128::MAX, i128::MIN, 1 << 64, -(1 << 64) - 1] {
-        assert_eq!(rt; Integer::from(z).value(), z);
+        assert_eq!(rt; Integer128::from(z).value(), z);
     }
     let bytes = ByteList::from_slice(rt.alloc(), &[7; 17])?;
     let wide = WideInteger::new(rt.alloc(), bytes)?;

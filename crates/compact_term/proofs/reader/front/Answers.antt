@@ -9,10 +9,13 @@ pub overflow_sub-len : goal.overflow_sub-len
 overflow_sub-len c = rw c.rest.ensures (read c).shorter
 
 pub returns-clause-found : goal.returns-clause-found
-returns-clause-found c = rw c.rest.ensures (read c).begins
+returns-clause-found c = rw (c.rest.ensures, ← (read c).left) (read c).begins
 
 pub returns-clause-proper : goal.returns-clause-proper
 returns-clause-proper c = (read c).proper
+
+pub returns-clause-meets_type : goal.returns-clause-meets_type
+returns-clause-meets_type c = (read c).meets_type
 
 pub returns-clause-read : goal.returns-clause-read
 returns-clause-read c =

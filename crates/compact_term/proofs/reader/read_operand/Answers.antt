@@ -1,4 +1,4 @@
-use Rattle.std.proofs.Common.{ap, ◌∙◌, inl, inr, Ok, Err}
+use Rattle.std.proofs.Common.{ap, ◌∙◌, inl, inr, drop, Ok, Err}
 use Rattle.std.proofs.lemmas.Result.{err_from_is_err_and}
 use Rattle.compact_term.proofs.Fronts.{same_operand, only_memory}
 use Rattle.compact_term.proofs.reader.read_operand.Goals as goal
@@ -11,4 +11,4 @@ returns-in_err-operand-clause-only c o text more spelt is =
 
 pub returns-clause-only : goal.returns-clause-only
 returns-clause-only c o text more spelt is =
-    inl (ap (λ (x : _). Ok x) (same_operand o c.in_ok-operand.operand c.in_ok-operand.len text more c.args.cur.now.rest (rw c.rest-bytes.ensures at c.in_ok-operand.ensures.found) spelt is))
+    inl (ap (λ (x : _). Ok x) (same_operand o c.in_ok-operand.operand text more c.args.cur.now.rest (drop c.in_ok-operand.len c.args.cur.now.rest) (rw c.rest-bytes.ensures at c.in_ok-operand.ensures.found) spelt is))
