@@ -4,7 +4,7 @@ use Rattle.std.specs.Prelude.{codes}
 use Rattle.std.specs.List.{flat_map}
 use Rattle.std.proofs.lemmas.List.{append-nil, take_more, flat_map_more}
 use Rattle.std.proofs.lemmas.List.Folds.{flat_map-map}
-use Rattle.ext_term.specs.Text.{Shown, shown_layer, commas, term_shown, term_text, pair_text}
+use Rattle.ext_term.specs.Text.{TermTexts, layer_texts, commas, term_texts, term_text, pair_text}
 use Rattle.ext_term.specs.declared.term.Term.{Term}
 use Rattle.ext_term.specs.declared.term.Term.TheFolds.{fold-roll-Term}
 use Rattle.ext_term.specs.declared.term.Term.TheOpen.{Term-F}
@@ -19,22 +19,22 @@ commas-map text f (x ∷ xs) = ap (λ (t : List ℕ). text (f x) ++ t) (flat_map
 -- ---- the texts of terms with terms in them
 
 pub tuple_text : (items : List Term) → term_text (terms.Tuple items) ≡ codes "{" ++ commas term_text items ++ codes "}"
-unfolding term_text term_shown
+unfolding term_text term_texts
 tuple_text items =
-    ap term_text (sym (rolls-Tuple items)) ∙ ap (λ (x : Shown). x.alone) (fold-roll-Term Shown shown_layer (Term-F.Tuple items))
-    ∙ ap (λ (t : List ℕ). codes "{" ++ t ++ codes "}") (commas-map (λ x. x.alone) term_shown items)
+    ap term_text (sym (rolls-Tuple items)) ∙ ap (λ (x : TermTexts). x.alone) (fold-roll-Term TermTexts layer_texts (Term-F.Tuple items))
+    ∙ ap (λ (t : List ℕ). codes "{" ++ t ++ codes "}") (commas-map (λ x. x.alone) term_texts items)
 
-pub list_text : (items : List Term) (tail : Term) → term_text (terms.List items tail) ≡ codes "[" ++ commas term_text items ++ (term_shown tail).as_tail ++ codes "]"
-unfolding term_text term_shown
+pub list_text : (items : List Term) (tail : Term) → term_text (terms.List items tail) ≡ codes "[" ++ commas term_text items ++ (term_texts tail).as_tail ++ codes "]"
+unfolding term_text term_texts
 list_text items tail =
-    ap term_text (sym (rolls-List items tail)) ∙ ap (λ (x : Shown). x.alone) (fold-roll-Term Shown shown_layer (Term-F.List items tail))
-    ∙ ap (λ (t : List ℕ). codes "[" ++ t ++ (term_shown tail).as_tail ++ codes "]") (commas-map (λ x. x.alone) term_shown items)
+    ap term_text (sym (rolls-List items tail)) ∙ ap (λ (x : TermTexts). x.alone) (fold-roll-Term TermTexts layer_texts (Term-F.List items tail))
+    ∙ ap (λ (t : List ℕ). codes "[" ++ t ++ (term_texts tail).as_tail ++ codes "]") (commas-map (λ x. x.alone) term_texts items)
 
 pub map_text : (pairs : List (Term × Term)) → term_text (terms.Map pairs) ≡ codes "#{" ++ commas pair_text pairs ++ codes "}"
-unfolding term_text term_shown
+unfolding term_text term_texts
 map_text pairs =
-    ap term_text (sym (rolls-Map pairs)) ∙ ap (λ (x : Shown). x.alone) (fold-roll-Term Shown shown_layer (Term-F.Map pairs))
-    ∙ ap (λ (t : List ℕ). codes "#{" ++ t ++ codes "}") (commas-map (λ p. p.0.alone ++ codes "=>" ++ p.1.alone) (λ p. (term_shown p.0, term_shown p.1)) pairs)
+    ap term_text (sym (rolls-Map pairs)) ∙ ap (λ (x : TermTexts). x.alone) (fold-roll-Term TermTexts layer_texts (Term-F.Map pairs))
+    ∙ ap (λ (t : List ℕ). codes "#{" ++ t ++ codes "}") (commas-map (λ p. p.0.alone ++ codes "=>" ++ p.1.alone) (λ p. (term_texts p.0, term_texts p.1)) pairs)
 
 -- ---- commas
 

@@ -3,7 +3,7 @@ use Rattle.std.proofs.Common.{◌≡◌, ℕ, Bool, true, false, cond, ◌||◌,
 use Rattle.std.proofs.lemmas.Bool.{eqb-true}
 use Rattle.std.specs.Str.{IsUtf8, is_utf8, encode_utf8_all}
 use Rattle.std.proofs.lemmas.Str.{IsUtf8-from_is_utf8, is_utf8-from_IsUtf8}
-use Rattle.bk_codec.specs.Reading.{◌>>=◌, giving, made_of, byte_at, bytes_at, number_at}
+use Rattle.bk_codec.specs.Reading.{◌>>=◌, giving, made_of, byte_at, bytes_at, number_at, utf8_or}
 use Rattle.bk_codec.specs.Spelling.{IsBytes, Then, SpellsNumber, SpellsBytes}
 use Rattle.bk_codec.proofs.Steps.{bind_ok, chosen, ok_is}
 use Rattle.bk_codec.proofs.Agreement.{Agrees, Takes, Takes-weaker, byte_agrees, bytes_agree, number_agrees}
@@ -13,7 +13,7 @@ use Rattle.ext_term.specs.declared.refusal.TermRefusal.{TermRefusal}
 use Rattle.ext_term.specs.declared.refusal.TermRefusal.TheVariants.{Cut, AtomText, BitTail}
 use Rattle.ext_term.specs.Integer.{big_of}
 use Rattle.ext_term.specs.Spelling.{SpellsBig, SpellsAtom, latin_100, latin_115, utf8_118, utf8_119, byte_term}
-use Rattle.ext_term.specs.Reading.{sized_at, big_at, latin_at, text_of, utf8_at, atom_at, is_atom_tag, string_at, has_bits, bits_at}
+use Rattle.ext_term.specs.Reading.{sized_at, big_at, latin_at, utf8_at, atom_at, is_atom_tag, string_at, has_bits, bits_at}
 use Rattle.bk_codec.proofs.Agreeing.{Two, Made, agrees_as, agrees_two, agrees_made, agrees_test, agrees_bytes}
 
 -- ---- tests of tags
@@ -88,14 +88,14 @@ latin_agrees k = agrees_made encode_utf8_all (sized_at k) (SpellsBytes k) (agree
 abbrev pub IsUtf8In : ℕ → List ℕ → List ℕ → Type 0
 IsUtf8In k s text = IsUtf8 s × SpellsBytes k s text
 
-text_of_ok : (b : Bool) (offset : ℕ) (s after : List ℕ) (x : List ℕ × List ℕ) → (cond b (Ok s) (Err (AtomText offset)) >>= λ text. giving text after) ≡ Ok x → (b ≡ true) × ((s, after) ≡ x)
-text_of_ok true offset s after x e = (refl, ok_is {E = TermRefusal} (s, after) x e)
-text_of_ok false offset s after x e = absurd cc
+utf8_ok : (b : Bool) (offset : ℕ) (s after : List ℕ) (x : List ℕ × List ℕ) → (cond b (Ok s) (Err (AtomText offset)) >>= λ text. giving text after) ≡ Ok x → (b ≡ true) × ((s, after) ≡ x)
+utf8_ok true offset s after x e = (refl, ok_is {E = TermRefusal} (s, after) x e)
+utf8_ok false offset s after x e = absurd cc
 
 utf8_take : (offset k : ℕ) (bytes s rest : List ℕ) → IsBytes bytes → utf8_at offset k bytes ≡ Ok (s, rest) → Takes (IsUtf8In k s) bytes rest
 utf8_take offset k bytes s rest fits e =
-    let b = bind_ok (sized_at k bytes) (λ s. text_of offset s.0 >>= λ text. giving text s.1) (s, rest) e in
-    let t = text_of_ok (is_utf8 b.0.0) offset b.0.0 b.0.1 (s, rest) b.2 in
+    let b = bind_ok (sized_at k bytes) (λ s. utf8_or (AtomText offset) s.0 >>= λ text. giving text s.1) (s, rest) e in
+    let t = utf8_ok (is_utf8 b.0.0) offset b.0.0 b.0.1 (s, rest) b.2 in
     let utf8 : IsUtf8 b.0.0 = IsUtf8-from_is_utf8 b.0.0 t.0 in
     let took : Takes (IsUtf8In k b.0.0) bytes b.0.1 = Takes-weaker (λ text is. (utf8, is)) ((agrees_bytes Cut k).takes bytes b.0.0 b.0.1 fits b.1) in
     subst (λ (q : List ℕ × List ℕ). Takes (IsUtf8In k q.0) bytes q.1) t.1 took

@@ -60,7 +60,7 @@ name_from levels name text (deep, is) =
     let a = atom_parts name text is in
     (a.0, record { front = a.0 ∷ []; back = a.1; front_is = (deep, refl); back_is = a.3; joined = a.2 })
 
-name_agrees : (end levels : ℕ) → Agrees (name_at end levels) (λ name text. (1 ≤ levels) × SpellsAtom name text)
+pub name_agrees : (end levels : ℕ) → Agrees (name_at end levels) (λ name text. (1 ≤ levels) × SpellsAtom name text)
 unfolding name_at
 name_agrees end levels =
     agrees_as

@@ -1,6 +1,6 @@
 -- What is written of a term is one of its spellings.
-use Rattle.std.proofs.Common.{◌≡◌, ℕ, zero, suc, ◌-◌, ◌^◌, ◌<◌, ◌≤◌, ◌⊎◌, ltb, leb, pos, negsuc, ◌-ℤ◌, Bool, true, false, not, ◌&&◌, ◌==◌, List, [], ◌∷◌, ◌++◌, length, map, get_or, is_some, All, refl, sym, ap, subst, ◌∙◌, arith, inl, inr}
-use Rattle.std.specs.List.{flat_map, list_all}
+use Rattle.std.proofs.Common.{◌≡◌, ℕ, zero, suc, ◌-◌, ◌^◌, ◌<◌, ◌≤◌, ◌⊎◌, ltb, pos, negsuc, ◌-ℤ◌, Bool, true, false, not, ◌&&◌, ◌==◌, List, [], ◌∷◌, ◌++◌, length, map, get_or, All, IsUtf8, refl, sym, ap, subst, ◌∙◌, arith, inl, inr}
+use Rattle.std.specs.List.{flat_map}
 use Rattle.std.proofs.lemmas.Bool.{cases_Bool, cases_lt, cases_eq, false≢true, ltb-true, lt-ltb, le-ltb, leb-true, ne_eqb}
 use Rattle.std.proofs.lemmas.Int.{ints}
 use Rattle.std.proofs.lemmas.List.{length-map}
@@ -11,15 +11,16 @@ use Rattle.ext_term.specs.Spelling.{SpellsAtom, SpellsPair, SpellsTagged, Spells
 use Rattle.ext_term.specs.declared.term.Term.{Term, out-Term, roll-Term, roll-out-Term}
 use Rattle.ext_term.specs.declared.term.Term.TheOpen.{Term-F}
 use Rattle.ext_term.specs.declared.term.Term.TheVariants as terms
-use Rattle.ext_term.specs.Writing.{term_written, spelling, integer_written, big_bytes_of, has_32_bits, bits_32, significant, sign_byte, atom_bytes, tuple_head, pair_bytes, byte_list, is_string, string_bytes, FitsName, IsString, FitsBy, IsWritable}
+use Rattle.ext_term.specs.Writing.{term_written, spelling, integer_written, big_bytes_of, has_32_bits, bits_32, significant, sign_byte, atom_bytes, tuple_head, pair_bytes, byte_list, is_string, string_bytes, FitsName, IsString, FitsBy, IsWritable, LayerMeetsType, MeetsType}
+use Rattle.ext_term.proofs.Meeting.{InsideMeetsType, meets_here, meets_inside}
 use Rattle.ext_term.proofs.Magnitude.{significant_few, significant_number}
-use Rattle.ext_term.proofs.Strings.{small_parts, both_true, nil_is, bytes_are, string_is}
-use Rattle.ext_term.proofs.Written.{int_spelling, wide_spelling, atom_spelling, tuple_spelling, nil_spelling, general_spelling, string_spelling, binary_spelling, bits_spelling, map_spelling, export_spelling, is_string_here, string_bytes_here}
+use Rattle.ext_term.proofs.Strings.{small_parts, bytes_are, string_is, string_back}
+use Rattle.ext_term.proofs.Written.{int_spelling, wide_spelling, atom_spelling, tuple_spelling, nil_spelling, general_spelling, string_spelling, binary_spelling, bits_spelling, map_spelling, export_spelling, string_bytes_here}
 
 -- ---- fields
 
 -- a number of one byte
-byte_number : (x : ℕ) → x < 256 → SpellsNumber 1 x (x ∷ [])
+pub byte_number : (x : ℕ) → x < 256 → SpellsNumber 1 x (x ∷ [])
 byte_number x below = record { fits = below; is = ap (λ (b : ℕ). b ∷ []) (omega arith) }
 
 pub joined : {P Q : List ℕ → Type 0} (front back : List ℕ) → P front → Q back → Then P Q (front ++ back)
@@ -95,12 +96,12 @@ int_good n Inner neg mag fits sign =
 
 -- ---- atoms
 
-atom_good : (name : List ℕ) → FitsName name → SpellsAtom name (atom_bytes name)
+pub atom_good : (name : List ℕ) → IsUtf8 name → FitsName name → SpellsAtom name (atom_bytes name)
 unfolding atom_bytes
-atom_good name fits =
+atom_good name utf8 fits =
     elim (cases_lt (length name) 256) [
-      | inl few ↦ rw (lt-ltb _ _ few) (SpellsAtom.utf8_119 name (length name ∷ name) fits.0 (joined (length name ∷ []) name (byte_number (length name) few) refl))
-      | inr many ↦ rw (le-ltb _ _ many) (SpellsAtom.utf8_118 name (big_bytes 2 (length name) ++ name) fits.0 (joined (big_bytes 2 (length name)) name (number 2 (length name) fits.1) refl))
+      | inl few ↦ rw (lt-ltb _ _ few) (SpellsAtom.utf8_119 name (length name ∷ name) utf8 (joined (length name ∷ []) name (byte_number (length name) few) refl))
+      | inr many ↦ rw (le-ltb _ _ many) (SpellsAtom.utf8_118 name (big_bytes 2 (length name) ++ name) utf8 (joined (big_bytes 2 (length name)) name (number 2 (length name) fits) refl))
     ]
 
 -- ---- tuples, lists and maps, whose terms `Inner` spells as they are written
@@ -122,19 +123,12 @@ general_good n Inner items tail fits each last =
 string_good : (n : ℕ) (Inner : Term → List ℕ → Type 0) (items : List Term) (tail : Term) → is_string (map term_written items) (term_written tail) ≡ true
     → SpellsTagged n Inner (terms.List items tail) (string_bytes (map term_written items))
 string_good n Inner items tail string =
-    let tests = rw (is_string_here items tail) at string in
-    let nil = (term_written tail).is_nil in
-    let some = leb 1 (length items) in
-    let few = ltb (length items) 65536 in
-    let all = list_all (λ t. is_some (term_written t).byte) items in
-    let a = both_true (nil && some && few) all tests in
-    let b = both_true (nil && some) few a.0 in
-    let c = both_true nil some b.0 in
-    let bytes = bytes_are items a.1 in
+    let is = string_back items tail string in
+    let bytes = bytes_are items is.2 in
     let size : length items ≡ length bytes.bytes = ap length bytes.are ∙ length-map bytes.bytes byte_term in
-    let below : length items < 65536 = ltb-true (length items) 65536 b.1 in
+    let below : length items < 65536 = is.1 in
     let list : terms.List items tail ≡ terms.List (map byte_term bytes.bytes) terms.Nil =
-    ap (λ (us : List Term). terms.List us tail) bytes.are ∙ ap (λ (t : Term). terms.List (map byte_term bytes.bytes) t) (nil_is tail c.0) in
+    ap (λ (us : List Term). terms.List us tail) bytes.are ∙ ap (λ (t : Term). terms.List (map byte_term bytes.bytes) t) is.3 in
     let text : string_bytes (map term_written items) ≡ 107 ∷ (big_bytes 2 (length bytes.bytes) ++ bytes.bytes) =
     string_bytes_here items ∙ ap (λ (k : ℕ). 107 ∷ (big_bytes 2 k ++ flat_map (λ t. byte_list (term_written t).byte) items)) size ∙ ap (λ (s : List ℕ). 107 ∷ (big_bytes 2 (length bytes.bytes) ++ s)) bytes.written in
     rw (list, text) (SpellsTagged.string_107 bytes.bytes (big_bytes 2 (length bytes.bytes) ++ bytes.bytes) (joined (big_bytes 2 (length bytes.bytes)) bytes.bytes (number 2 (length bytes.bytes) (omega arith)) refl))
@@ -163,31 +157,36 @@ list_good n Inner items tail fits =
       ])
     ]
 
-layer_good : (n : ℕ) (Inner : Term → List ℕ → Type 0) (Fits : Term → Type 0) → ((t : Term) → Fits t → Inner t (spelling t)) → (f : Term-F Term) → FitsBy n Fits f → Good n Inner (roll-Term f)
-layer_good n Inner Fits inner (Term-F.Int neg mag) fits = rw (terms.rolls-Int neg mag, int_spelling neg mag) (int_good n Inner neg mag fits.0 fits.1)
-layer_good n Inner Fits inner (Term-F.Wide neg mag) fits =
+-- a term inside fits where it meets its type
+layer_good : (n : ℕ) (Inner : Term → List ℕ → Type 0) (Fits : Term → Type 0) → ((t : Term) → MeetsType t → Fits t → Inner t (spelling t))
+    → (f : Term-F Term) → LayerMeetsType f → InsideMeetsType f → FitsBy n Fits f → Good n Inner (roll-Term f)
+layer_good n Inner Fits inner (Term-F.Int neg mag) here held fits = rw (terms.rolls-Int neg mag, int_spelling neg mag) (int_good n Inner neg mag here fits)
+layer_good n Inner Fits inner (Term-F.Wide neg mag) here held fits =
     rw (terms.rolls-Wide neg mag, wide_spelling neg mag) (subst (λ (t : Term). SpellsTagged n Inner t (big_bytes_of neg mag)) (wide_is neg mag fits.0) (big_good n Inner neg mag fits.1))
-layer_good n Inner Fits inner (Term-F.Atom name) fits = rw (terms.rolls-Atom name, atom_spelling name) (SpellsTagged.atom name (atom_bytes name) (atom_good name fits))
-layer_good n Inner Fits inner (Term-F.Tuple items) fits = rw (terms.rolls-Tuple items, tuple_spelling items) (tuple_good n Inner items fits.0 (λ k d lt. inner _ (fits.1 k d lt)))
-layer_good n Inner Fits inner Term-F.Nil fits = rw (terms.rolls-Nil, nil_spelling) SpellsTagged.nil_106
-layer_good n Inner Fits inner (Term-F.List items tail) fits =
+layer_good n Inner Fits inner (Term-F.Atom name) here held fits = rw (terms.rolls-Atom name, atom_spelling name) (SpellsTagged.atom name (atom_bytes name) (atom_good name here fits))
+layer_good n Inner Fits inner (Term-F.Tuple items) here held fits =
+    rw (terms.rolls-Tuple items, tuple_spelling items) (tuple_good n Inner items fits.0 (λ k d lt. inner _ (held k d lt) (fits.1 k d lt)))
+layer_good n Inner Fits inner Term-F.Nil here held fits = rw (terms.rolls-Nil, nil_spelling) SpellsTagged.nil_106
+layer_good n Inner Fits inner (Term-F.List items tail) here held fits =
     rw (terms.rolls-List items tail) (list_good n Inner items tail (elim fits [
       | inl string ↦ inl string
-      | inr parts ↦ inr (parts.0, (λ k d lt. inner _ (parts.1 k d lt)), inner tail parts.2)
+      | inr parts ↦ inr (parts.0, (λ k d lt. inner _ (held.0 k d lt) (parts.1 k d lt)), inner tail held.1 parts.2)
     ]))
-layer_good n Inner Fits inner (Term-F.Binary s) fits =
+layer_good n Inner Fits inner (Term-F.Binary s) here held fits =
     rw (terms.rolls-Binary s, binary_spelling s) (SpellsTagged.binary_109 s (big_bytes 4 (length s) ++ s) (joined (big_bytes 4 (length s)) s (number 4 (length s) fits) refl))
-layer_good n Inner Fits inner (Term-F.Bits s last) fits =
+layer_good n Inner Fits inner (Term-F.Bits s last) here held fits =
     rw (terms.rolls-Bits s last, bits_spelling s last)
     (SpellsTagged.bits_77 s (big_bytes 4 (length s) ++ (last ∷ s)) last fits.0 fits.2 fits.3 (joined (big_bytes 4 (length s)) (last ∷ s) (number 4 (length s) fits.1) refl))
-layer_good n Inner Fits inner (Term-F.Map pairs) fits =
-    rw (terms.rolls-Map pairs, map_spelling pairs) (map_good n Inner pairs fits.0 (λ k d lt. (inner _ (fits.1 k d lt).0, inner _ (fits.1 k d lt).1)))
-layer_good n Inner Fits inner (Term-F.Export m f arity) fits =
+layer_good n Inner Fits inner (Term-F.Map pairs) here held fits =
+    rw (terms.rolls-Map pairs, map_spelling pairs)
+    (map_good n Inner pairs fits.0 (λ k d lt. (inner _ (held k d lt).0 (fits.1 k d lt).0, inner _ (held k d lt).1 (fits.1 k d lt).1)))
+layer_good n Inner Fits inner (Term-F.Export m f arity) here held fits =
     rw (terms.rolls-Export m f arity, export_spelling m f arity)
-    (SpellsTagged.export_113 m f (atom_bytes m ++ (atom_bytes f ++ (97 ∷ arity ∷ []))) arity fits.3
-    (joined (atom_bytes m) (atom_bytes f ++ (97 ∷ arity ∷ [])) (atom_good m fits.0) (joined (atom_bytes f) (97 ∷ arity ∷ []) (atom_good f fits.1) refl)))
+    (SpellsTagged.export_113 m f (atom_bytes m ++ (atom_bytes f ++ (97 ∷ arity ∷ []))) arity fits.2
+    (joined (atom_bytes m) (atom_bytes f ++ (97 ∷ arity ∷ [])) (atom_good m here.0 fits.0) (joined (atom_bytes f) (97 ∷ arity ∷ []) (atom_good f here.1 fits.1) refl)))
 
-pub term_good : (levels : ℕ) (t : Term) → IsWritable levels t → SpellsTerm levels t (spelling t)
+pub term_good : (levels : ℕ) (t : Term) → MeetsType t → IsWritable levels t → SpellsTerm levels t (spelling t)
 unfolding IsWritable SpellsTerm
-term_good zero t is = absurd is
-term_good (suc n) t is = subst (Good n (SpellsTerm n)) (roll-out-Term t) (layer_good n (SpellsTerm n) (IsWritable n) (term_good n) (out-Term t) is)
+term_good zero t meets is = absurd is
+term_good (suc n) t meets is =
+    subst (Good n (SpellsTerm n)) (roll-out-Term t) (layer_good n (SpellsTerm n) (IsWritable n) (term_good n) (out-Term t) (meets_here t meets) (meets_inside t meets) is)

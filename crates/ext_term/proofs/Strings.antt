@@ -1,8 +1,8 @@
 -- Which terms are written as a byte, and which lists as bytes.
-use Rattle.std.proofs.Common.{◌≡◌, ℕ, ◌<◌, ltb, Bool, true, false, not, ◌&&◌, List, [], ◌∷◌, ◌++◌, map, is_some, refl, sym, ap, subst, ◌∙◌, inl, inr}
+use Rattle.std.proofs.Common.{◌≡◌, ℕ, suc, ◌<◌, ltb, leb, Bool, true, false, not, ◌&&◌, List, [], ◌∷◌, ◌++◌, length, map, is_some, All, arith, refl, sym, ap, subst, ◌∙◌, inl, inr}
 use Rattle.std.specs.List.{flat_map, list_all}
-use Rattle.std.proofs.lemmas.List.Sums.{list_all-from_AllPass}
-use Rattle.std.proofs.lemmas.Bool.{cases_Bool, false≢true, ltb-true, lt-ltb, le-leb}
+use Rattle.std.proofs.lemmas.List.Sums.{list_all-from_AllPass, AllPass-from_list_all}
+use Rattle.std.proofs.lemmas.Bool.{cases_Bool, false≢true, ltb-true, leb-true, lt-ltb, le-leb}
 use Rattle.ext_term.specs.Spelling.{byte_term}
 use Rattle.ext_term.specs.declared.term.Term.{Term, out-Term, roll-Term, roll-out-Term}
 use Rattle.ext_term.specs.declared.term.Term.TheOpen.{Term-F}
@@ -43,11 +43,6 @@ nil_is t is =
 
 -- ---- integers of one byte
 
-pub record ByteTerm (t : Term) : Type 0 where
-  pub byte : ℕ
-  pub below : byte < 256
-  pub is : t ≡ byte_term byte
-
 pub small_parts : (neg : Bool) (mag : ℕ) → (not neg && ltb mag 256) ≡ true → (neg ≡ false) × (mag < 256)
 small_parts true mag small = absurd (false≢true small)
 small_parts false mag small = (refl, ltb-true mag 256 small)
@@ -63,10 +58,10 @@ integer_byte neg mag is =
       ]
     ]
 
-byte_layer : (f : Term-F Term) → is_some (layer f).byte ≡ true → ByteTerm (roll-Term f)
+byte_layer : (f : Term-F Term) → is_some (layer f).byte ≡ true → IsByteTerm (roll-Term f)
 byte_layer (Term-F.Int neg mag) is =
     let p = integer_byte neg mag is in
-    record { byte = mag; below = p.1; is = terms.rolls-Int neg mag ∙ ap (λ (n : Bool). terms.Int n mag) p.0 }
+    (mag, p.1, terms.rolls-Int neg mag ∙ ap (λ (n : Bool). terms.Int n mag) p.0)
 byte_layer (Term-F.Wide neg mag) is = absurd (false≢true is)
 byte_layer (Term-F.Atom name) is = absurd (false≢true is)
 byte_layer (Term-F.Tuple items) is = absurd (false≢true is)
@@ -77,11 +72,11 @@ byte_layer (Term-F.Bits s last) is = absurd (false≢true is)
 byte_layer (Term-F.Map pairs) is = absurd (false≢true is)
 byte_layer (Term-F.Export m f arity) is = absurd (false≢true is)
 
-byte_is : (t : Term) → is_some (term_written t).byte ≡ true → ByteTerm t
+byte_is : (t : Term) → is_some (term_written t).byte ≡ true → IsByteTerm t
 byte_is t is =
     let f = out-Term t in
     let same : roll-Term f ≡ t = roll-out-Term t in
-    subst ByteTerm same (byte_layer f (ap (λ (w : Written). is_some w.byte) (sym (layer_written (roll-Term f) f refl)) ∙ ap (λ (u : Term). is_some (term_written u).byte) same ∙ is))
+    subst IsByteTerm same (byte_layer f (ap (λ (w : Written). is_some w.byte) (sym (layer_written (roll-Term f) f refl)) ∙ ap (λ (u : Term). is_some (term_written u).byte) same ∙ is))
 
 byte_of_term : (b : ℕ) → b < 256 → byte_list (term_written (byte_term b)).byte ≡ b ∷ []
 unfolding integer_written
@@ -114,15 +109,25 @@ pub both_true : (a b : Bool) → (a && b) ≡ true → (a ≡ true) × (b ≡ tr
 both_true true b is = (refl, is)
 both_true false b is = absurd (false≢true is)
 
-pub bytes_are : (items : List Term) → list_all (λ t. is_some (term_written t).byte) items ≡ true → ByteTerms items
-bytes_are [] all = record { bytes = []; are = refl; written = refl }
-bytes_are (t ∷ items) all =
-    let p = both_true (is_some (term_written t).byte) (list_all (λ u. is_some (term_written u).byte) items) all in
-    let first = byte_is t p.0 in
-    let others = bytes_are items p.1 in
-    let one : byte_list (term_written t).byte ≡ first.byte ∷ [] = ap (λ (u : Term). byte_list (term_written u).byte) first.is ∙ byte_of_term first.byte first.below in
+pub string_back : (items : List Term) (tail : Term) → is_string (map term_written items) (term_written tail) ≡ true → IsString items tail
+string_back items tail string =
+    let nil = (term_written tail).is_nil in
+    let some = leb 1 (length items) in
+    let few = ltb (length items) 65536 in
+    let byte : Term → Bool = λ t. is_some (term_written t).byte in
+    let a = both_true (nil && some && few) (list_all byte items) (rw (is_string_here items tail) at string) in
+    let b = both_true (nil && some) few a.0 in
+    let c = both_true nil some b.0 in
+    (leb-true 1 (length items) c.1, ltb-true (length items) 65536 b.1, (λ k d lt. byte_is _ (AllPass-from_list_all byte items a.1 k d lt)), nil_is tail c.0)
+
+pub bytes_are : (items : List Term) → All IsByteTerm items → ByteTerms items
+bytes_are [] each = record { bytes = []; are = refl; written = refl }
+bytes_are (t ∷ items) each =
+    let first = each 0 t (omega arith) in
+    let others = bytes_are items (λ k d lt. each (suc k) d (omega arith)) in
+    let one : byte_list (term_written t).byte ≡ first.0 ∷ [] = ap (λ (u : Term). byte_list (term_written u).byte) first.2 ∙ byte_of_term first.0 first.1 in
     record {
-      bytes = first.byte ∷ others.bytes;
-      are = ap (λ (u : Term). u ∷ items) first.is ∙ ap (λ (us : List Term). byte_term first.byte ∷ us) others.are;
-      written = ap (λ (s : List ℕ). s ++ flat_map (λ u. byte_list (term_written u).byte) items) one ∙ ap (λ (s : List ℕ). first.byte ∷ s) others.written;
+      bytes = first.0 ∷ others.bytes;
+      are = ap (λ (u : Term). u ∷ items) first.2 ∙ ap (λ (us : List Term). byte_term first.0 ∷ us) others.are;
+      written = ap (λ (s : List ℕ). s ++ flat_map (λ u. byte_list (term_written u).byte) items) one ∙ ap (λ (s : List ℕ). first.0 ∷ s) others.written;
     }

@@ -13,7 +13,7 @@ use Rattle.ext_term.specs.declared.term.Term.TheVariants as terms
 use Rattle.ext_term.specs.declared.refusal.TermRefusal.{TermRefusal}
 use Rattle.ext_term.specs.declared.refusal.TermRefusal.TheVariants.{Cut, Tag, Depth, Rest, NoMemory}
 use Rattle.ext_term.specs.Integer.{int_of, big_of}
-use Rattle.ext_term.specs.Spelling.{SpellsBig, latin_100, latin_115, utf8_118, utf8_119, SpellsPair, byte_term, SpellsTagged, small_97, signed_98, big_110, big_111, atom, tuple_104, tuple_105, nil_106, string_107, list_108, binary_109, bits_77, export_113, map_116, SpellsTerm, SpellsFile}
+use Rattle.ext_term.specs.Spelling.{SpellsBig, latin_100, latin_115, utf8_118, utf8_119, SpellsPair, byte_term, SpellsTagged, small_97, signed_98, big_110, big_111, atom, tuple_104, tuple_105, nil_106, string_107, list_108, binary_109, bits_77, export_113, map_116, SpellsTerm, SpellsTermFile}
 use Rattle.ext_term.specs.Reading.{sized_at, big_at, integer_at, is_atom_tag, atom_at, string_at, has_bits, flat_at, tuple_at, list_at, export_at, nested_at, is_integer_tag, is_flat_tag, is_nested_tag, tagged_at, term_at, file_at, term_of}
 use Rattle.bk_codec.proofs.Agreeing.{Two, Made, agrees_as, agrees_two, agrees_made, agrees_bytes}
 use Rattle.ext_term.proofs.Flat.{last_of_four, last_of_five, IsBig, big_agrees, latin_agrees, utf8_agrees, AtomBehind, atom_agrees, IsBits, bits_agree, string_agrees}
@@ -259,11 +259,11 @@ taken_and_refused : (r : Result Term TermRefusal) (t : Term) (e : TermRefusal) �
 taken_and_refused (Ok u) t e a b = absurd cc
 taken_and_refused (Err d) t e a b = absurd cc
 
-alone_ok : (e : TermRefusal) (x t : Term) (rest : List ℕ) → alone e x rest ≡ Ok t → (rest ≡ []) × (x ≡ t)
+pub alone_ok : (e : TermRefusal) (x t : Term) (rest : List ℕ) → alone e x rest ≡ Ok t → (rest ≡ []) × (x ≡ t)
 alone_ok e x t [] h = (refl, ok_is {E = TermRefusal} x t h)
 alone_ok e x t (b ∷ rest) h = absurd cc
 
-pub file_takes : (bytes : List ℕ) (t : Term) → IsBytes bytes → term_of bytes ≡ Ok t → SpellsFile t bytes
+pub file_takes : (bytes : List ℕ) (t : Term) → IsBytes bytes → term_of bytes ≡ Ok t → SpellsTermFile t bytes
 unfolding file_at
 file_takes bytes t fits e =
     let end = length bytes in
@@ -283,7 +283,7 @@ file_takes bytes t fits e =
       joined = front.joined ∙ ap (λ (u : List ℕ). u ++ v.0.1) front.is ∙ ap (λ (n : ℕ). n ∷ v.0.1) version;
     }
 
-pub file_again : (t : Term) (bytes : List ℕ) → SpellsFile t bytes → term_of bytes ≡ Ok t
+pub file_again : (t : Term) (bytes : List ℕ) → SpellsTermFile t bytes → term_of bytes ≡ Ok t
 unfolding file_at
 file_again t bytes is =
     let whole : bytes ≡ 131 ∷ is.back = is.joined ∙ ap (λ (u : List ℕ). u ++ is.back) is.front_is in
@@ -293,12 +293,12 @@ file_again t bytes is =
 
 -- ---- what a reader answered
 
-pub found : (bytes : List ℕ) (answer : Result Term TermRefusal) → IsBytes bytes → GivesAll NoMemory (λ t. t) answer (term_of bytes) → IfOk answer (λ t. SpellsFile t bytes)
+pub found : (bytes : List ℕ) (answer : Result Term TermRefusal) → IsBytes bytes → GivesAll NoMemory (λ t. t) answer (term_of bytes) → IfOk answer (λ t. SpellsTermFile t bytes)
 found bytes (Ok t) fits gives = file_takes bytes t fits gives
 found bytes (Err e) fits gives = tt
 
 pub only : (bytes : List ℕ) (answer : Result Term TermRefusal) → GivesAll NoMemory (λ t. t) answer (term_of bytes)
-    → (t : Term) → SpellsFile t bytes → (answer ≡ Ok t) ⊎ (answer ≡ Err NoMemory)
+    → (t : Term) → SpellsTermFile t bytes → (answer ≡ Ok t) ⊎ (answer ≡ Err NoMemory)
 only bytes (Ok u) gives t is = inl (sym gives ∙ file_again t bytes is)
 only bytes (Err e) (inl memory) t is = inr (ap Err memory)
 only bytes (Err e) (inr refused) t is = absurd (taken_and_refused (term_of bytes) t e (file_again t bytes is) refused)
@@ -309,7 +309,7 @@ one_spelling levels t u a b x y is_t is_u same =
     let f = one_form (term_agrees 0 levels) t u a b x y is_t is_u same in
     (append_cancel_right a b y (ap (λ (z : List ℕ). a ++ z) (sym f.1) ∙ same), f.0)
 
-pub one_file : (t u : Term) (a b x y : List ℕ) → SpellsFile t a → SpellsFile u b → a ++ x ≡ b ++ y → (a ≡ b) × (t ≡ u)
+pub one_file : (t u : Term) (a b x y : List ℕ) → SpellsTermFile t a → SpellsTermFile u b → a ++ x ≡ b ++ y → (a ≡ b) × (t ≡ u)
 one_file t u a b x y is_t is_u same =
     let a_is : a ≡ 131 ∷ is_t.back = is_t.joined ∙ ap (λ (z : List ℕ). z ++ is_t.back) is_t.front_is in
     let b_is : b ≡ 131 ∷ is_u.back = is_u.joined ∙ ap (λ (z : List ℕ). z ++ is_u.back) is_u.front_is in

@@ -2,7 +2,7 @@
 use Rattle.std.proofs.Common.{◌≡◌, ℕ, Bool, true, false, ◌&&◌, nat_le, nat_lt, List, [], ◌∷◌, ◌++◌, length, map, is_some, refl, sym, ap, ◌∙◌}
 use Rattle.std.specs.List.{flat_map, list_all}
 use Rattle.std.proofs.lemmas.List.{length-map}
-use Rattle.std.proofs.lemmas.List.Folds.{list_all-map}
+use Rattle.std.proofs.lemmas.List.Folds.{list_all-map, flat_map-map}
 use Rattle.byteorder.specs.Endian.{big_bytes}
 use Rattle.ext_term.specs.declared.term.Term.{Term, roll-Term, map-Term, fold-Term, fold-roll-Term}
 use Rattle.ext_term.specs.declared.term.Term.TheOpen.{Term-F}
@@ -10,10 +10,6 @@ use Rattle.ext_term.specs.declared.term.Term.TheVariants as terms
 use Rattle.ext_term.specs.Writing.{Written, written_by, term_written, spelling, integer_written, big_bytes_of, atom_bytes, binary_bytes, bits_bytes, export_bytes, tuple_head, is_string, string_bytes, byte_list, list_bytes, pair_bytes}
 
 -- ---- lists of what is written
-
-pub flat_map-map : {X Y A : Type 0} (f : Y → List A) (g : X → Y) (xs : List X) → flat_map f (map g xs) ≡ flat_map (λ x. f (g x)) xs
-flat_map-map f g [] = refl
-flat_map-map f g (x ∷ xs) = ap (λ (t : List _). f (g x) ++ t) (flat_map-map f g xs)
 
 pub ruleset mapped = (length-map, list_all-map, flat_map-map)
 

@@ -4,4 +4,3 @@ pub mod Spelling
 pub mod Reading
 pub mod Text
 pub mod Writing
-pub mod Lines

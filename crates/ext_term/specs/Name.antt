@@ -1,5 +1,5 @@
 -- How a name is shown: as it is, or in single quotes.
-use Rattle.std.specs.Prelude.{◌≡◌, ℕ, ◌==◌, Bool, false, ◌&&◌, ◌||◌, if◌then◌else◌, List, [], ◌∷◌, ◌++◌, codes}
+use Rattle.std.specs.Prelude.{ℕ, ◌==◌, Bool, false, ◌&&◌, ◌||◌, if◌then◌else◌, List, [], ◌∷◌, ◌++◌, codes}
 use Rattle.std.specs.List.{flat_map, list_all}
 use Rattle.std.specs.Char.{is_ascii_lowercase, is_ascii_alphanumeric, is_ascii_control}
 use Rattle.hex.specs.Hex.{encode_lower}
@@ -24,10 +24,3 @@ escaped b =
 -- the text of a name
 abbrev pub name_text : List ℕ → List ℕ
 name_text name = if is_bare name then name else codes "'" ++ flat_map escaped name ++ codes "'"
-
--- the new list is the old one with a front of the text behind it
-pub record AddsFront (text old new : List ℕ) : Type 0 where
-  pub front : List ℕ
-  pub back : List ℕ
-  pub text_is : text ≡ front ++ back
-  pub new_is : new ≡ old ++ front

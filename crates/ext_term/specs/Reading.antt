@@ -1,8 +1,8 @@
 -- How a term is read from the left, and which refusal comes first.
-use Rattle.std.specs.Prelude.{ℕ, zero, suc, ◌-◌, List, length, map, Bool, ◌==◌, ◌&&◌, ◌||◌, nat_le, if◌then◌else◌, Result, Ok, Err}
-use Rattle.std.specs.Str.{is_utf8, encode_utf8_all}
+use Rattle.std.specs.Prelude.{ℕ, zero, suc, ◌-◌, List, length, map, Bool, ◌==◌, ◌&&◌, ◌||◌, nat_le, if◌then◌else◌, Result, Err}
+use Rattle.std.specs.Str.{encode_utf8_all}
 use Rattle.byteorder.specs.Endian.{twos_complement}
-use Rattle.bk_codec.specs.Reading.{◌>>=◌, giving, made_of, byte_at, bytes_at, number_at, many_at, alone}
+use Rattle.bk_codec.specs.Reading.{◌>>=◌, giving, made_of, byte_at, bytes_at, number_at, utf8_or, many_at, alone}
 use Rattle.ext_term.specs.Integer.{int_of, big_of}
 use Rattle.ext_term.specs.Spelling.{byte_term}
 use Rattle.ext_term.specs.declared.term.Term.{Term}
@@ -29,13 +29,9 @@ integer_at tag bytes =
 abbrev pub latin_at : ℕ → List ℕ → Result (List ℕ × List ℕ) TermRefusal
 latin_at k bytes = made_of encode_utf8_all (sized_at k bytes)
 
--- the text that the bytes of an atom are, whose tag is at this offset
-abbrev pub text_of : ℕ → List ℕ → Result (List ℕ) TermRefusal
-text_of offset bytes = if is_utf8 bytes then Ok bytes else Err (AtomText offset)
-
--- the bytes are there before they are looked at
+-- the name of the atom whose tag is at this offset; its bytes are there before they are looked at
 abbrev pub utf8_at : ℕ → ℕ → List ℕ → Result (List ℕ × List ℕ) TermRefusal
-utf8_at offset k bytes = sized_at k bytes >>= λ s. text_of offset s.0 >>= λ text. giving text s.1
+utf8_at offset k bytes = sized_at k bytes >>= λ s. utf8_or (AtomText offset) s.0 >>= λ text. giving text s.1
 
 unfoldable pub atom_at : ℕ → ℕ → List ℕ → Result (List ℕ × List ℕ) TermRefusal
 atom_at offset tag bytes =

@@ -49,5 +49,5 @@ SpellsTerm zero t bytes = ⊥
 SpellsTerm (suc levels) t bytes = SpellsTagged levels (SpellsTerm levels) t bytes
 
 -- the version, and one term
-abbrev pub SpellsFile : Term → List ℕ → Type 0
-SpellsFile t = Then (λ text. text ≡ 131 ∷ []) (SpellsTerm 256 t)
+abbrev pub SpellsTermFile : Term → List ℕ → Type 0
+SpellsTermFile t = Then (λ text. text ≡ 131 ∷ []) (SpellsTerm 256 t)

@@ -2,8 +2,9 @@
 use Rattle.std.specs.Prelude.{◌≡◌, ℕ, zero, suc, ◌-◌, ◌/◌, ◌%◌, ◌^◌, ◌<◌, ◌≤◌, ◌⊎◌, Bool, true, false, not, ◌&&◌, ◌==◌, nat_lt, nat_le, if◌then◌else◌, List, [], ◌∷◌, ◌++◌, length, Option, Some, None, is_some, All, IsUtf8}
 use Rattle.std.specs.List.{flat_map, list_all}
 use Rattle.byteorder.specs.Endian.{big_bytes}
+use Rattle.bk_codec.specs.Spelling.{IsBytes}
 use Rattle.ext_term.specs.Spelling.{byte_term}
-use Rattle.ext_term.specs.declared.term.Term.{Term, fold-Term, out-Term}
+use Rattle.ext_term.specs.declared.term.Term.{Term, fold-Term, out-Term, every-Term}
 use Rattle.ext_term.specs.declared.term.Term.TheOpen.{Term-F}
 use Rattle.ext_term.specs.declared.term.Term.TheVariants as terms
 
@@ -129,11 +130,11 @@ abbrev pub IsString : List Term → Term → Type 0
 IsString items tail = (1 ≤ length items) × (length items < 65536) × All IsByteTerm items × (tail ≡ terms.Nil)
 
 abbrev pub FitsName : List ℕ → Type 0
-FitsName name = IsUtf8 name × (length name < 65536)
+FitsName name = length name < 65536
 
--- each length fits its field and each number its bytes; `Fits` says so of the terms inside, and `levels` more of them may stand in one another there
+-- zero isn't negative, wide integers and bit strings have the bytes that they need, and each length fits its field; `Fits` says so of the terms inside, and `levels` more of them may stand in one another there
 abbrev pub FitsBy : ℕ → (Term → Type 0) → Term-F Term → Type 0
-FitsBy levels Fits (Term-F.Int neg mag) = (mag < 2 ^ 128) × (mag ≡ 0 → neg ≡ false)
+FitsBy levels Fits (Term-F.Int neg mag) = mag ≡ 0 → neg ≡ false
 FitsBy levels Fits (Term-F.Wide neg mag) = (17 ≤ length mag) × (length mag < 2 ^ 32)
 FitsBy levels Fits (Term-F.Atom name) = FitsName name
 FitsBy levels Fits (Term-F.Tuple items) = (length items < 2 ^ 32) × All Fits items
@@ -142,7 +143,7 @@ FitsBy levels Fits (Term-F.List items tail) = IsString items tail ⊎ ((length i
 FitsBy levels Fits (Term-F.Binary s) = length s < 2 ^ 32
 FitsBy levels Fits (Term-F.Bits s last) = (1 ≤ length s) × (length s < 2 ^ 32) × (1 ≤ last) × (last ≤ 8)
 FitsBy levels Fits (Term-F.Map pairs) = (length pairs < 2 ^ 32) × All (λ pair. Fits pair.0 × Fits pair.1) pairs
-FitsBy levels Fits (Term-F.Export m f arity) = FitsName m × FitsName f × (arity < 256) × (1 ≤ levels)
+FitsBy levels Fits (Term-F.Export m f arity) = FitsName m × FitsName f × (1 ≤ levels)
 
 -- a term that can be written, in which at most so many terms stand in one another, itself among them
 unfoldable pub IsWritable : ℕ → Term → Type 0
@@ -153,3 +154,22 @@ IsWritable (suc levels) t = FitsBy levels (IsWritable levels) (out-Term t)
 pub record CanBeWritten (t : Term) : Type 0 where
   pub levels : ℕ
   pub is : IsWritable levels t
+
+-- ---- terms as their type has them
+
+-- each number is in the range of its type, names are UTF-8, and bytes are bytes
+abbrev pub LayerMeetsType : Term-F Term → Type 0
+LayerMeetsType (Term-F.Int neg mag) = mag < 2 ^ 128
+LayerMeetsType (Term-F.Wide neg mag) = IsBytes mag
+LayerMeetsType (Term-F.Atom name) = IsUtf8 name
+LayerMeetsType (Term-F.Tuple items) = Unit {0}
+LayerMeetsType Term-F.Nil = Unit {0}
+LayerMeetsType (Term-F.List items tail) = Unit {0}
+LayerMeetsType (Term-F.Binary s) = IsBytes s
+LayerMeetsType (Term-F.Bits s last) = IsBytes s × (last < 256)
+LayerMeetsType (Term-F.Map pairs) = Unit {0}
+LayerMeetsType (Term-F.Export m f arity) = IsUtf8 m × IsUtf8 f × (arity < 256)
+
+-- the same of a term and of every term in it
+abbrev pub MeetsType : Term → Type 0
+MeetsType = every-Term LayerMeetsType

@@ -2,7 +2,8 @@
 
 ghost use Rattle.std.specs.Prelude.{◌≡◌, ◌++◌, OnOk, OnErr};
 ghost use Rattle.std.specs.List.{list_all};
-ghost use Rattle.ext_term.specs.Name.{escaped, is_bare, is_name_byte, name_text, AddsFront};
+ghost use Rattle.ext_term.specs.Name.{escaped, is_bare, is_name_byte, name_text};
+ghost use Rattle.bk_text.specs.Fronts.{AddsFront};
 
 use bk_base::{Bytes, NoMemory};
 

@@ -1,13 +1,13 @@
 //! Reading the parts of terms that have no terms in them.
 
-ghost use Rattle.std.specs.Prelude.{◌≡◌, ◌≤◌, Ok, IfOk, length, map};
+ghost use Rattle.std.specs.Prelude.{◌≡◌, ◌≤◌, IfOk, length, map};
 ghost use Rattle.std.specs.Str.{encode_utf8_all};
 ghost use Rattle.byteorder.specs.Endian.{little_number, twos_complement};
-ghost use Rattle.bk_codec.specs.Reading.{Gives, GivesAll, made_of, number_at};
+ghost use Rattle.bk_codec.specs.Reading.{Gives, made_of, number_at};
 ghost use Rattle.ext_term.specs.Integer.{int_of, big_of};
 ghost use Rattle.ext_term.specs.Spelling.{byte_term};
 ghost use Rattle.bk_base.specs.Place.{end_of};
-ghost use Rattle.ext_term.specs.Reading.{sized_at, big_at, integer_at, latin_at, text_of, utf8_at, atom_at, string_at, bits_at, flat_at};
+ghost use Rattle.ext_term.specs.Reading.{sized_at, big_at, integer_at, latin_at, utf8_at, atom_at, string_at, bits_at, flat_at};
 ghost use Rattle.ext_term.specs.declared.refusal.TermRefusal.TheVariants as refusals;
 
 use crate::refusal::TermRefusal;
@@ -16,7 +16,8 @@ use crate::tags::{
     STRING,
 };
 use crate::term::{Term, TermList};
-use bk_base::{ByteList, Cursor, NoMemory, Text, TextFault};
+use bk_base::{ByteList, Cursor, NoMemory, Text};
+use bk_codec::{text, word};
 use byteorder::{BigEndian, ByteOrder, LittleEndian};
 use sqlite_items::Boxed;
 use std::alloc::Global;
@@ -40,7 +41,7 @@ fn signed(cur: &mut Cursor<'_>) -> Result<i32, TermRefusal>
     ensures read { Gives refusals.NoMemory (λ z. z) cur.new.rest result (made_of (twos_complement 4) (number_at refusals.Cut 4 cur.old.rest)) }
     ensures end { end_of cur.new ≡ end_of cur.old }
 {
-    let n = cur.be32().ok_or(TermRefusal::Cut)?;
+    let n = word(cur, TermRefusal::Cut)?;
     Ok(n.cast_signed())
 }
 
@@ -130,7 +131,7 @@ pub(crate) fn integer(alloc: Global, cur: &mut Cursor<'_>, tag: u8) -> Result<Te
 
 // The name that these bytes are, each of them a character.
 #[tactic(auto, using(crate::proofs::Names::encodes_more))]
-fn latin(alloc: Global, bytes: &[u8]) -> Result<Text, NoMemory>
+fn latin_text(alloc: Global, bytes: &[u8]) -> Result<Text, NoMemory>
     ensures { IfOk result (λ text. text ≡ encode_utf8_all bytes.now) }
 {
     let mut name = String::new(alloc);
@@ -140,15 +141,27 @@ fn latin(alloc: Global, bytes: &[u8]) -> Result<Text, NoMemory>
     Ok(Text::from(name))
 }
 
-// The name that these bytes are in UTF-8, of the atom whose tag is at this offset.
-fn utf8(alloc: Global, bytes: &[u8], at: usize) -> Result<Text, TermRefusal>
-    ensures { GivesAll refusals.NoMemory (λ t. t) result (text_of at bytes.now) }
+// A name in Latin-1, behind its length in `n` bytes.
+fn latin(alloc: Global, cur: &mut Cursor<'_>, n: usize) -> Result<Text, TermRefusal>
+    requires low { 1 ≤ n }
+    requires high { n ≤ 4 }
+    ensures read { Gives refusals.NoMemory (λ t. t) cur.new.rest result (latin_at n cur.old.rest) }
+    ensures end { end_of cur.new ≡ end_of cur.old }
 {
-    match Text::from_bytes(alloc, bytes) {
-        Ok(text) => Ok(text),
-        Err(TextFault::NotUtf8) => Err(TermRefusal::AtomText { at }),
-        Err(TextFault::NoMemory) => Err(TermRefusal::NoMemory),
-    }
+    let bytes = sized(cur, n)?;
+    Ok(latin_text(alloc, bytes)?)
+}
+
+// The name of the atom whose tag is at this offset, in UTF-8, behind its length in `n` bytes.
+fn utf8(alloc: Global, cur: &mut Cursor<'_>, at: usize, n: usize) -> Result<Text, TermRefusal>
+    requires low { 1 ≤ n }
+    requires high { n ≤ 4 }
+    ensures read { Gives refusals.NoMemory (λ t. t) cur.new.rest result (utf8_at at n cur.old.rest) }
+    ensures end { end_of cur.new ≡ end_of cur.old }
+{
+    let bytes = sized(cur, n)?;
+    let bad = TermRefusal::AtomText { at };
+    text(alloc, bytes, bad, TermRefusal::NoMemory)
 }
 
 /// The name behind the tag of an atom, which is at this offset.
@@ -163,22 +176,10 @@ pub(crate) fn atom(
     ensures end { end_of cur.new ≡ end_of cur.old }
 {
     match tag {
-        LONG_LATIN_ATOM => {
-            let bytes = sized(cur, 2)?;
-            Ok(latin(alloc, bytes)?)
-        }
-        SHORT_LATIN_ATOM => {
-            let bytes = sized(cur, 1)?;
-            Ok(latin(alloc, bytes)?)
-        }
-        LONG_ATOM => {
-            let bytes = sized(cur, 2)?;
-            utf8(alloc, bytes, at)
-        }
-        _ => {
-            let bytes = sized(cur, 1)?;
-            utf8(alloc, bytes, at)
-        }
+        LONG_LATIN_ATOM => latin(alloc, cur, 2),
+        SHORT_LATIN_ATOM => latin(alloc, cur, 1),
+        LONG_ATOM => utf8(alloc, cur, at, 2),
+        _ => utf8(alloc, cur, at, 1),
     }
 }
 

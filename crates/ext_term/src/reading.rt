@@ -2,7 +2,7 @@
 
 ghost use Rattle.std.specs.Prelude.{◌≡◌, ◌≤◌, ◌⊎◌, IfOk, OnOk, Ok, Err};
 ghost use Rattle.bk_codec.specs.Reading.{Gives, GivesAll, many_at};
-ghost use Rattle.ext_term.specs.Spelling.{SpellsFile};
+ghost use Rattle.ext_term.specs.Spelling.{SpellsTermFile};
 ghost use Rattle.bk_base.specs.Place.{end_of};
 ghost use Rattle.ext_term.specs.Reading.{tag_at, name_at, arity_at, export_at, pair_at, nested_at, tagged_at, term_at, term_of};
 ghost use Rattle.ext_term.specs.declared.refusal.TermRefusal.TheVariants as refusals;
@@ -15,6 +15,7 @@ use crate::tags::{
 };
 use crate::term::{Term, TermList, TermPairList};
 use bk_base::{Cursor, Text};
+use bk_codec::end;
 use sqlite_items::Boxed;
 use std::alloc::Global;
 
@@ -205,9 +206,8 @@ fn whole_term(alloc: Global, s: &[u8]) -> Result<Term, TermRefusal>
         });
     }
     let t = term(alloc, &mut cur, DEPTH)?;
-    if !cur.is_empty() {
-        return Err(TermRefusal::Rest { at: cur.at() });
-    }
+    let rest = TermRefusal::Rest { at: cur.at() };
+    end(&cur, rest)?;
     Ok(t)
 }
 
@@ -219,9 +219,9 @@ fn whole_term(alloc: Global, s: &[u8]) -> Result<Term, TermRefusal>
 /// stand in one another. No room is taken by a count that the bytes state.
 pub fn read_term(alloc: Global, s: &[u8]) -> Result<Term, TermRefusal>
     // What was read is spelled there.
-    ensures found { IfOk result (λ t. SpellsFile t s.now) }
+    ensures found { IfOk result (λ t. SpellsTermFile t s.now) }
     // What is spelled there is read, unless memory runs out.
-    ensures only { (t : Term) → SpellsFile t s.now → (result ≡ Ok t) ⊎ (result ≡ Err refusals.NoMemory) }
+    ensures only { (t : Term) → SpellsTermFile t s.now → (result ≡ Ok t) ⊎ (result ≡ Err refusals.NoMemory) }
     // Which refusal it is.
     ensures exact { GivesAll refusals.NoMemory (λ t. t) result (term_of s.now) }
 {

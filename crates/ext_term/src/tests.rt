@@ -122,6 +122,10 @@ fn told(alloc: Global, bytes: &[u8]) -> Result<String, Fail> {
 #[test]
 fn terms_are_read_or_refused(rt: HostRuntime) -> Result<(), Fail> {
     one_term();
+    reading_is_exact();
+    refusals_stand();
+    fronts_are_cut();
+    bytes_behind_are_refused();
     let alloc = rt.alloc();
     for (bytes, text) in [
         (b"\x83a\x05".as_slice(), "5"),
@@ -154,6 +158,8 @@ fn terms_are_read_or_refused(rt: HostRuntime) -> Result<(), Fail> {
         (b"\x83a", "Cut"),
         (b"\x83h\xff", "Cut"),
         (b"\x83l\xff\xff\xff\xff", "Cut"),
+        (b"\x83i\xff\xff\xff\xffa\x01", "Cut"),
+        (b"\x83t\xff\xff\xff\xffa\x01a\x02", "Cut"),
         (b"\x83n\xff\0", "Cut"),
         (b"\x82a\x05", "Tag { tag: 130, at: 0 }"),
         (b"\x83P", "Tag { tag: 80, at: 1 }"),
@@ -251,6 +257,7 @@ fn integers_are_written(rt: HostRuntime) -> Result<(), Fail> {
 #[test]
 fn terms_are_written(rt: HostRuntime) -> Result<(), Fail> {
     canonical();
+    spelled_terms_meet_their_type();
     let alloc = rt.alloc();
     writes(&rt, &Term::Nil, b"\x83\x6a")?;
     writes(
@@ -281,4 +288,64 @@ fn terms_are_written(rt: HostRuntime) -> Result<(), Fail> {
         &Term::Map(pairs),
         b"\x83\x74\0\0\0\x01\x61\x01\x61\x02",
     )
+}
+
+// So many bytes, all alike.
+fn alike(alloc: Global, byte: u8, n: usize) -> Result<Vec<u8>, Fail>
+    ensures { IfOk result (λ bytes. length bytes.items ≡ n) }
+{
+    Ok(vec![in alloc; byte; n]?)
+}
+
+// The same as a value.
+fn alike_list(alloc: Global, byte: u8, n: usize) -> Result<ByteList, Fail>
+    ensures { IfOk result (λ bytes. length bytes ≡ n) }
+{
+    let bytes = alike(alloc, byte, n)?;
+    Ok(ByteList::from_slice(alloc, bytes.as_slice())?)
+}
+
+// So many empty lists.
+fn nils(alloc: Global, n: usize) -> Result<TermList, Fail>
+    ensures each { IfOk result (λ items. (levels : ℕ) → All (IsWritable (suc levels)) items) }
+    ensures len { IfOk result (λ items. length items ≡ n) }
+{
+    let mut items = TermList::new(alloc);
+    for _ in 0..n {
+        items.push(Term::Nil)?;
+    }
+    Ok(items)
+}
+
+// Compares what is written of a term with a front and so many bytes behind it, all alike.
+fn writes_long(
+    rt: &(impl Abort + AllocGlobal),
+    t: &Term,
+    front: &[u8],
+    byte: u8,
+    n: usize,
+) -> Result<(), Fail>
+    requires { IsWritable 256 t.now }
+{
+    let mut file = Vec::new(rt.alloc());
+    file.extend_from_slice(front)?;
+    file.extend_from_slice(alike(rt.alloc(), byte, n)?.as_slice())?;
+    writes(rt, t, file.as_slice())
+}
+
+#[test]
+fn long_terms_are_written(rt: HostRuntime) -> Result<(), Fail> {
+    let alloc = rt.alloc();
+    let bytes = alike_list(alloc, 10, 300)?;
+    writes_long(&rt, &Term::Binary(bytes), b"\x83\x6d\0\0\x01\x2c", 10, 300)?;
+    let mag = alike_list(alloc, 7, 17)?;
+    let wide = Term::Wide { neg: true, mag };
+    writes_long(&rt, &wide, b"\x83\x6e\x11\x01", 7, 17)?;
+    let mag = alike_list(alloc, 7, 300)?;
+    let wide = Term::Wide { neg: false, mag };
+    writes_long(&rt, &wide, b"\x83\x6f\0\0\x01\x2c\0", 7, 300)?;
+    let name = Text::from_bytes(alloc, alike(alloc, b'a', 300)?.as_slice())?;
+    writes_long(&rt, &Term::Atom(name), b"\x83\x76\x01\x2c", b'a', 300)?;
+    let items = nils(alloc, 300)?;
+    writes_long(&rt, &Term::Tuple(items), b"\x83\x69\0\0\x01\x2c", b'j', 300)
 }

@@ -1,18 +1,15 @@
 //! The text of a term.
 
-ghost use Rattle.std.specs.Prelude.{◌≡◌, ◌++◌, ◌≤◌, ◌+◌, ◌*◌, ◌-◌, ◌==◌, if◌then◌else◌, [], codes, decimal, length, reverse, IfOk, OnOk};
+ghost use Rattle.std.specs.Prelude.{◌≡◌, ◌++◌, ◌+◌, ◌*◌, ◌-◌, ◌==◌, if◌then◌else◌, [], codes, decimal, length, IfOk, OnOk};
 ghost use Rattle.hex.specs.Hex.{encode_lower};
 ghost use Rattle.ext_term.specs.Name.{name_text};
-ghost use Rattle.ext_term.specs.Text.{commas, sign, term_shown, term_text, pair_text};
+ghost use Rattle.ext_term.specs.Text.{commas, sign, term_texts, term_text, pair_text};
 
 use crate::name::name_text;
 use crate::term::Term;
 use bk_base::{Bytes, NoMemory};
-use itoa::{Buffer, Integer};
+use bk_text::{put_hex, put_hex_backwards, put_number};
 use std::alloc::Global;
-
-// How many bytes are turned into hexadecimal digits at a time.
-const PIECE: usize = 32;
 
 /// The text of a term, on one line.
 ///
@@ -30,10 +27,8 @@ pub fn term_text(alloc: Global, t: &Term) -> Result<Bytes, NoMemory>
 }
 
 /// Appends the text of a term to `out`, as [`term_text`] has it.
-///
-/// Where memory is wanting, a front of the text may have been appended.
 #[cycle(text)]
-#[tactic(auto, unfolding(crate::specs::Text::term_text, crate::specs::Text::term_shown))]
+#[tactic(auto, unfolding(crate::specs::Text::term_text, crate::specs::Text::term_texts))]
 pub fn put_term(t: &Term, out: &mut Bytes) -> Result<(), NoMemory>
     ensures { OnOk result (out.new.items ≡ out.old.items ++ term_text t.now) }
 {
@@ -87,9 +82,9 @@ fn put_items(out: &mut Bytes, items: &[Term]) -> Result<(), NoMemory>
 
 // Puts what stands behind the items of a list at the end: nothing where the tail is the empty list.
 #[cycle(text)]
-#[tactic(auto, unfolding(crate::specs::Text::term_text, crate::specs::Text::term_shown))]
+#[tactic(auto, unfolding(crate::specs::Text::term_text, crate::specs::Text::term_texts))]
 fn put_tail(out: &mut Bytes, tail: &Term) -> Result<(), NoMemory>
-    ensures { OnOk result (out.new.items ≡ out.old.items ++ (term_shown tail.now).as_tail) }
+    ensures { OnOk result (out.new.items ≡ out.old.items ++ (term_texts tail.now).as_tail) }
 {
     if let Term::Nil = tail {
         return Ok(());
@@ -124,7 +119,7 @@ fn put_binary(out: &mut Bytes, bytes: &[u8]) -> Result<(), NoMemory>
     ensures { OnOk result (out.new.items ≡ out.old.items ++ (codes "<<" ++ encode_lower bytes.now ++ codes ">>")) }
 {
     out.extend(b"<<")?;
-    put_hex(bytes, out)?;
+    put_hex(out, bytes)?;
     out.extend(b">>")
 }
 
@@ -134,7 +129,7 @@ fn put_bits(out: &mut Bytes, bytes: &[u8], last: u8) -> Result<(), NoMemory>
 {
     let bits = (8 * bytes.len() as u128 + u128::from(last)).saturating_sub(8);
     out.extend(b"<<")?;
-    put_hex(bytes, out)?;
+    put_hex(out, bytes)?;
     out.push(b'/')?;
     put_number(out, bits)?;
     out.extend(b">>")
@@ -157,44 +152,4 @@ fn put_sign(out: &mut Bytes, neg: bool) -> Result<(), NoMemory>
     ensures { OnOk result (out.new.items ≡ out.old.items ++ sign neg) }
 {
     if neg { out.push(b'-') } else { Ok(()) }
-}
-
-// Puts the digits of bytes at the end, from the last byte to the first.
-fn put_hex_backwards(out: &mut Bytes, bytes: &[u8]) -> Result<(), NoMemory>
-    ensures { OnOk result (out.new.items ≡ out.old.items ++ encode_lower (reverse bytes.now)) }
-{
-    for b in bytes.iter().rev() {
-        put_piece(out, &[*b])?;
-    }
-    Ok(())
-}
-
-/// Appends the digits of bytes in lower-case hexadecimal to `out`, two for each.
-///
-/// Where memory is wanting, the digits of some of the first bytes may have been appended.
-pub fn put_hex(bytes: &[u8], out: &mut Bytes) -> Result<(), NoMemory>
-    ensures { OnOk result (out.new.items ≡ out.old.items ++ encode_lower bytes.now) }
-{
-    for piece in bytes.chunks(PIECE) {
-        put_piece(out, piece)?;
-    }
-    Ok(())
-}
-
-// Puts the digits of a few bytes at the end.
-fn put_piece(out: &mut Bytes, piece: &[u8]) -> Result<(), NoMemory>
-    requires { length piece.now ≤ 32 }
-    ensures { OnOk result (out.new.items ≡ out.old.items ++ encode_lower piece.now) }
-{
-    let mut buffer = [0; 2 * PIECE];
-    let digits = &mut buffer[..2 * piece.len()];
-    hex::encode_to_slice(piece, digits).unwrap();
-    out.extend(digits)
-}
-
-// Puts a number in decimal at the end.
-fn put_number<I: Integer>(out: &mut Bytes, number: I) -> Result<(), NoMemory>
-    ensures { OnOk result (out.new.items ≡ out.old.items ++ I.text number) }
-{
-    out.extend(Buffer::new().format(number).as_bytes())
 }

@@ -23,8 +23,8 @@ use std::alloc::Global;
 /// A term can be written where zero isn't negative, a [`Term::Wide`] has 17 bytes or more, a bit string
 /// has a byte and 1 to 8 bits in its last one, a name has less than 65,536 bytes, all else less than
 /// 4,294,967,296 bytes, items or pairs, and at most 256 terms stand in one another: the parts of an
-/// external function count there, and the integers of a list that is written as bytes don't. It fails
-/// only for want of memory.
+/// external function count there, and the integers of a list that is written as bytes don't. These are
+/// just the terms that the file spells ([`crate::canonical`]). It fails only for want of memory.
 pub fn write_term(alloc: Global, t: &Term) -> Result<Bytes, NoMemory>
     requires { IsWritable 256 t.now }
     ensures { IfOk result (λ out. out.items ≡ file_spelling t.now) }

@@ -5,4 +5,4 @@ use Rattle.ext_term.proofs.Writable.{writable_int}
 use Rattle.ext_term.proofs.tests.int.Goals as goal
 
 pub returns : goal.returns
-returns c = λ levels. writable_int levels _ _ (omega (arith, ints)) (λ none. grind (arith, ints, nat_tests))
+returns c = λ levels. writable_int levels _ _ (λ none. grind (arith, ints, nat_tests))

@@ -1,19 +1,18 @@
-use Rattle.std.proofs.Common.{◌≡◌, ℕ, zero, suc, ◌<◌, List, [], ◌∷◌, length, All, IsUtf8, subst, sym, arith}
+use Rattle.std.proofs.Common.{◌≡◌, ℕ, zero, suc, ◌<◌, List, [], ◌∷◌, length, All, subst, sym, arith}
 use Rattle.ext_term.specs.declared.term.Term.{Term}
 use Rattle.ext_term.specs.Writing.{FitsName, IsWritable}
 use Rattle.ext_term.proofs.Writable.{writable_nil, writable_atom, writable_tuple, writable_list, writable_bits, writable_map, writable_export}
 use Rattle.ext_term.proofs.tests.terms_are_written.Goals as goal
 
-name_fits : (name s : List ℕ) → name ≡ s → IsUtf8 s → length s < 65536 → FitsName name
-name_fits name s same utf8 short = subst FitsName (sym same) (utf8, short)
+name_fits : (name s : List ℕ) → name ≡ s → length s < 65536 → FitsName name
+name_fits name s same short = subst FitsName (sym same) short
 
 pub writes-requires : goal.writes-requires
 writes-requires g c = writable_nil 255
 
 pub writes-requires-2 : goal.writes-requires-2
 writes-requires-2 g c =
-    let fits = name_fits _ _ c.in_ok-from_bytes.ensures.same c.in_ok-from_bytes.ensures.utf8 (omega arith) in
-    writable_atom 255 _ fits.0 fits.1
+    writable_atom 255 _ (name_fits _ _ c.in_ok-from_bytes.ensures.same (omega arith))
 
 pub writes-requires-3 : goal.writes-requires-3
 writes-requires-3 g c = rw c.new.ensures (writable_tuple 255 [] (omega arith) (λ k d lt. absurd (omega arith)))
@@ -32,9 +31,9 @@ writes-requires-6 g c =
 pub writes-requires-7 : goal.writes-requires-7
 writes-requires-7 g c =
     writable_export 255 _ _ 1
-    (name_fits _ _ c.in_ok-from_bytes-2.ensures.same c.in_ok-from_bytes-2.ensures.utf8 (omega arith))
-    (name_fits _ _ c.in_ok-from_bytes-3.ensures.same c.in_ok-from_bytes-3.ensures.utf8 (omega arith))
-    (omega arith) (omega arith)
+    (name_fits _ _ c.in_ok-from_bytes-2.ensures.same (omega arith))
+    (name_fits _ _ c.in_ok-from_bytes-3.ensures.same (omega arith))
+    (omega arith)
 
 one_pair : (n : ℕ) (key value : Term) → IsWritable n key → IsWritable n value → All (λ (pair : Term × Term). IsWritable n pair.0 × IsWritable n pair.1) ((key, value) ∷ [])
 one_pair n key value k v zero d lt = (k, v)

@@ -1,6 +1,0 @@
-use Rattle.std.proofs.Common.{◌≡◌, ◌++◌, reverse}
-use Rattle.hex.specs.Hex.{encode_lower}
-use Rattle.ext_term.proofs.text.put_hex_backwards.Given as goal
-
-abbrev pub invariant-loop-b : goal.invariant-loop-b
-invariant-loop-b l = l.out.items ++ encode_lower (reverse l.b-iterator.iter.rest.now) ≡ l.initial.out.items ++ encode_lower (reverse l.bytes)
