@@ -3,7 +3,7 @@ use Rattle.std.proofs.Common.{◌≡◌, ℕ, ◌<◌, Bool, true, false, cond, 
 use Rattle.std.proofs.lemmas.Bool.{ltb-true, ltb-false, lt-ltb, le-ltb, false≢true, false_from_ne_true}
 use Rattle.std.specs.Str.{IsUtf8, is_utf8}
 use Rattle.std.proofs.lemmas.Str.{IsUtf8-from_is_utf8, is_utf8-from_IsUtf8}
-use Rattle.bk_codec.specs.Reading.{◌>>=◌, giving, byte_at, bytes_at}
+use Rattle.bk_codec.specs.Reading.{◌>>=◌, giving, byte_at, bytes_at, utf8_or}
 use Rattle.bk_codec.specs.Spelling.{IsBytes}
 use Rattle.bk_codec.proofs.Steps.{bind_ok, bind_err, guard_ok, guard_err, ok_is, err_is}
 use Rattle.bk_codec.proofs.Agreement.{Agrees, Takes, Takes-then, Takes-weaker, byte_agrees, bytes_agree}
@@ -12,7 +12,7 @@ use Rattle.bk_codec.proofs.Refused.{RefusesByNumber}
 use Rattle.index_tables.specs.declared.refusal.TableRefusal.{TableRefusal}
 use Rattle.index_tables.specs.declared.refusal.TableRefusal.TheVariants.{Cut, AtomUtf8}
 use Rattle.index_tables.specs.Atoms.{SpellsAtom, SpellsAtoms, FitsAtoms}
-use Rattle.index_tables.specs.Reading.{text_of, atom_at, atoms_at}
+use Rattle.index_tables.specs.Reading.{atom_at, atoms_at}
 use Rattle.index_tables.specs.Refusal.{NoAtom}
 
 -- bytes that are the text of atom n, with what is behind them
@@ -35,8 +35,8 @@ atom_spelled name len bytes behind rest fits utf8 first second =
 atom_takes : (n : ℕ) (bytes x rest : List ℕ) → IsBytes bytes → atom_at n bytes ≡ Ok (x, rest) → Takes (SpellsAtom x) bytes rest
 unfolding atom_at
 atom_takes n bytes x rest fits e =
-    let a = bind_ok (byte_at Cut bytes) (λ len. bytes_at Cut len.0 len.1 >>= λ name. text_of n name.0 >>= λ text. giving text name.1) (x, rest) e in
-    let b = bind_ok (bytes_at Cut a.0.0 a.0.1) (λ name. text_of n name.0 >>= λ text. giving text name.1) (x, rest) a.2 in
+    let a = bind_ok (byte_at Cut bytes) (λ len. bytes_at Cut len.0 len.1 >>= λ name. utf8_or (AtomUtf8 n) name.0 >>= λ text. giving text name.1) (x, rest) e in
+    let b = bind_ok (bytes_at Cut a.0.0 a.0.1) (λ name. utf8_or (AtomUtf8 n) name.0 >>= λ text. giving text name.1) (x, rest) a.2 in
     let text = text_ok (is_utf8 b.0.0) n b.0.0 b.0.1 (x, rest) b.2 in
     let first = (byte_agrees Cut).takes bytes a.0.0 a.0.1 fits a.1 in
     let second = (bytes_agree Cut a.0.0).takes a.0.1 b.0.0 b.0.1 first.fits b.1 in
@@ -72,7 +72,7 @@ atom_why : (n : ℕ) (bytes : List ℕ) (e : TableRefusal) → IsBytes bytes →
 unfolding atom_at
 atom_why n [] e fits h = subst (λ (d : TableRefusal). NoAtom n [] d) (err_is {A = List ℕ × List ℕ} Cut e h) tt
 atom_why n (len ∷ bytes) e fits h =
-    elim (bind_err (bytes_at Cut len bytes) (λ name. text_of n name.0 >>= λ text. giving text name.1) e h) [
+    elim (bind_err (bytes_at Cut len bytes) (λ name. utf8_or (AtomUtf8 n) name.0 >>= λ text. giving text name.1) e h) [
       | inl short ↦ (
           let g = guard_err (ltb (length bytes) len) Cut (take len bytes, drop len bytes) e short in
           subst (λ (d : TableRefusal). NoAtom n (len ∷ bytes) d) g.1 (ltb-true (length bytes) len g.0))

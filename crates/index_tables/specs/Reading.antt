@@ -1,22 +1,17 @@
 -- How the tables are read: what stands in a payload, or the first refusal from the left.
-use Rattle.std.specs.Prelude.{ℕ, nat_le, Bool, ◌&&◌, if◌then◌else◌, List, length, Result, Ok, Err}
+use Rattle.std.specs.Prelude.{ℕ, nat_le, Bool, ◌&&◌, if◌then◌else◌, List, length, Result, Err}
 use Rattle.std.specs.List.{list_all}
-use Rattle.std.specs.Str.{is_utf8}
-use Rattle.bk_codec.specs.Reading.{◌>>=◌, giving, made_of, byte_at, bytes_at, number_at, many_at, counted_at, ended}
+use Rattle.bk_codec.specs.Reading.{◌>>=◌, giving, made_of, byte_at, bytes_at, number_at, utf8_or, many_at, counted_at, ended}
 use Rattle.index_tables.specs.Shape.{Shape}
 use Rattle.index_tables.specs.declared.refusal.TableRefusal.{TableRefusal}
 use Rattle.index_tables.specs.declared.refusal.TableRefusal.TheVariants.{Cut, AtomUtf8, AtomIndex, Rest}
 
 -- ---- atoms
 
--- the text that the bytes of atom n are
-abbrev pub text_of : ℕ → List ℕ → Result (List ℕ) TableRefusal
-text_of n bytes = if is_utf8 bytes then Ok bytes else Err (AtomUtf8 n)
-
 -- atom n: the length of its name, the name, and only then whether that is UTF-8
 unfoldable pub atom_at : ℕ → List ℕ → Result (List ℕ × List ℕ) TableRefusal
 atom_at n bytes =
-    byte_at Cut bytes >>= λ len. bytes_at Cut len.0 len.1 >>= λ name. text_of n name.0 >>= λ text. giving text name.1
+    byte_at Cut bytes >>= λ len. bytes_at Cut len.0 len.1 >>= λ name. utf8_or (AtomUtf8 n) name.0 >>= λ text. giving text name.1
 
 -- the atoms, counted from 1
 abbrev pub atoms_at : List ℕ → Result (List (List ℕ) × List ℕ) TableRefusal

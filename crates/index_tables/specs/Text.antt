@@ -2,7 +2,7 @@
 use Rattle.std.specs.Prelude.{ℕ, List, ◌++◌, codes, decimal}
 use Rattle.std.specs.List.{flat_map}
 use Rattle.ext_term.specs.Name.{name_text}
-use Rattle.ext_term.specs.Lines.{numbered_lines}
+use Rattle.bk_text.specs.Lines.{numbered_lines}
 use Rattle.index_tables.specs.Atoms.{atom_name}
 use Rattle.index_tables.specs.declared.entry.Import.{Import}
 use Rattle.index_tables.specs.declared.entry.Export.{Export}

@@ -6,13 +6,11 @@ ghost use Rattle.index_tables.specs.Atoms.{IsAtom, atom_name};
 use crate::table::Atoms;
 use bk_base::Text;
 
-impl Atoms {
-    /// The name of the atom with this number, counted from 1.
-    pub fn name(&self, number: u32) -> Option<&Text>
-        ensures found { IsSome result ↔ IsAtom self.now number }
-        ensures name { IfSome result (λ t. t.now ≡ atom_name self.now number) }
-    {
-        let i = number.checked_sub(1)?;
-        self.get(i as usize)
-    }
+/// The name of the atom with this number, counted from 1.
+pub fn atom_name(atoms: &Atoms, number: u32) -> Option<&Text>
+    ensures found { IsSome result ↔ IsAtom atoms.now number }
+    ensures name { IfSome result (λ t. t.now ≡ atom_name atoms.now number) }
+{
+    let i = number.checked_sub(1)?;
+    atoms.get(i as usize)
 }

@@ -3,12 +3,14 @@
 ghost use Rattle.std.specs.Prelude.{◌≡◌};
 ghost use Rattle.std.specs.List.{list_all};
 ghost use Rattle.bk_codec.specs.Reading.{Gives};
-ghost use Rattle.index_tables.specs.Reading.{word_at, record_at, is_atom};
+ghost use Rattle.index_tables.specs.Reading.{record_at, is_atom};
 ghost use Rattle.index_tables.specs.declared.refusal.TableRefusal.TheVariants as refusals;
 
+use crate::atoms::atom_name;
 use crate::refusal::TableRefusal;
 use crate::table::Atoms;
 use bk_base::Cursor;
+use bk_codec::word;
 
 /// A function of another module that the module calls.
 #[derive(Clone, Copy, Debug, PartialEq, Eq)]
@@ -50,7 +52,7 @@ pub struct Fun {
 }
 
 /// An entry of a table: a record of words, some of which are atom numbers.
-pub(crate) trait Entry: Sized + Drop {
+pub trait Entry: Sized + Drop {
     ghost use Rattle.index_tables.specs.Shape.{Shape, IsShape};
 
     ghost shape: { Shape Self };
@@ -68,71 +70,70 @@ pub(crate) trait Entry: Sized + Drop {
 }
 
 impl Entry for Import {
-    ghost use Rattle.index_tables.specs.Shape.{import_shape, import_is_shape};
+    ghost use Rattle.std.specs.Prelude.{refl};
+    ghost use Rattle.bk_codec.proofs.Words.{three_words};
+    ghost use Rattle.index_tables.specs.Shape.{import_shape};
 
     ghost shape = { import_shape };
 
-    ghost is_shape = { import_is_shape };
+    ghost is_shape = { record { counted = λ _. refl; back = λ _. refl; made = three_words } };
 
     fn read(cur: &mut Cursor<'_>) -> Result<Import, TableRefusal> {
         Ok(Import {
-            module: word(cur)?,
-            name: word(cur)?,
-            arity: word(cur)?,
+            module: word(cur, TableRefusal::Cut)?,
+            name: word(cur, TableRefusal::Cut)?,
+            arity: word(cur, TableRefusal::Cut)?,
         })
     }
 
     fn names_atoms(&self, atoms: &Atoms) -> bool {
-        atoms.name(self.module).is_some() && atoms.name(self.name).is_some()
+        atom_name(atoms, self.module).is_some() && atom_name(atoms, self.name).is_some()
     }
 }
 
 impl Entry for Export {
-    ghost use Rattle.index_tables.specs.Shape.{export_shape, export_is_shape};
+    ghost use Rattle.std.specs.Prelude.{refl};
+    ghost use Rattle.bk_codec.proofs.Words.{three_words};
+    ghost use Rattle.index_tables.specs.Shape.{export_shape};
 
     ghost shape = { export_shape };
 
-    ghost is_shape = { export_is_shape };
+    ghost is_shape = { record { counted = λ _. refl; back = λ _. refl; made = three_words } };
 
     fn read(cur: &mut Cursor<'_>) -> Result<Export, TableRefusal> {
         Ok(Export {
-            name: word(cur)?,
-            arity: word(cur)?,
-            label: word(cur)?,
+            name: word(cur, TableRefusal::Cut)?,
+            arity: word(cur, TableRefusal::Cut)?,
+            label: word(cur, TableRefusal::Cut)?,
         })
     }
 
     fn names_atoms(&self, atoms: &Atoms) -> bool {
-        atoms.name(self.name).is_some()
+        atom_name(atoms, self.name).is_some()
     }
 }
 
 impl Entry for Fun {
-    ghost use Rattle.index_tables.specs.Shape.{fun_shape, fun_is_shape};
+    ghost use Rattle.std.specs.Prelude.{refl};
+    ghost use Rattle.bk_codec.proofs.Words.{six_words};
+    ghost use Rattle.index_tables.specs.Shape.{fun_shape};
 
     ghost shape = { fun_shape };
 
-    ghost is_shape = { fun_is_shape };
+    ghost is_shape = { record { counted = λ _. refl; back = λ _. refl; made = six_words } };
 
     fn read(cur: &mut Cursor<'_>) -> Result<Fun, TableRefusal> {
         Ok(Fun {
-            name: word(cur)?,
-            arity: word(cur)?,
-            label: word(cur)?,
-            index: word(cur)?,
-            free: word(cur)?,
-            unique: word(cur)?,
+            name: word(cur, TableRefusal::Cut)?,
+            arity: word(cur, TableRefusal::Cut)?,
+            label: word(cur, TableRefusal::Cut)?,
+            index: word(cur, TableRefusal::Cut)?,
+            free: word(cur, TableRefusal::Cut)?,
+            unique: word(cur, TableRefusal::Cut)?,
         })
     }
 
     fn names_atoms(&self, atoms: &Atoms) -> bool {
-        atoms.name(self.name).is_some()
+        atom_name(atoms, self.name).is_some()
     }
-}
-
-/// The next word.
-pub(crate) fn word(cur: &mut Cursor<'_>) -> Result<u32, TableRefusal>
-    ensures { Gives refusals.NoMemory (λ n. n) cur.new.rest result (word_at cur.old.rest) }
-{
-    cur.be32().ok_or(TableRefusal::Cut)
 }

@@ -10,12 +10,13 @@ mod refusal;
 mod table;
 mod text;
 
-pub use entry::{Export, Fun, Import};
-pub use laws::{atoms_are_decided, entries_are_decided};
-pub use reading::{read_atoms, read_exports, read_funs, read_imports, read_locals};
+pub use atoms::atom_name;
+pub use entry::{Entry, Export, Fun, Import};
+pub use laws::{atoms_are_decided, entries_are_decided, reading_is_exact};
+pub use reading::{read_atoms, read_entries, read_exports, read_funs, read_imports, read_locals};
 pub use refusal::TableRefusal;
-pub use table::{Atoms, Exports, Funs, Imports, Table};
-pub use text::{atoms_text, exports_text, funs_text, imports_text};
+pub use table::{Atoms, Exports, Funs, Imports};
+pub use text::{EntryLine, atoms_text, entries_text, exports_text, funs_text, imports_text};
 
 #[cfg(test)]
 mod tests;

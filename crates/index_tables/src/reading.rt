@@ -1,18 +1,19 @@
 //! Reading the tables.
 
 ghost use Rattle.std.specs.Prelude.{◌≡◌, ◌⊎◌, ℕ, List, IfOk, IfErr};
-ghost use Rattle.bk_codec.specs.Reading.{Gives, GivesAll, alone, numbered_at};
-ghost use Rattle.index_tables.specs.Reading.{text_of, atom_at, all_atoms, entry_at, all_entries};
+ghost use Rattle.bk_codec.specs.Reading.{Gives, GivesAll, numbered_at};
+ghost use Rattle.index_tables.specs.Reading.{atom_at, all_atoms, entry_at, all_entries};
 ghost use Rattle.index_tables.specs.Atoms.{SpellsAtoms, FitsAtoms};
 ghost use Rattle.index_tables.specs.Entries.{SpellsTable, SpellsImports, SpellsExports, SpellsFuns, NamesAtoms, FitsWords, import_words, import_atoms, export_words, export_atoms, fun_words, fun_atoms};
 ghost use Rattle.index_tables.specs.Refusal.{RefusesAtoms, RefusesTable, RefusesImports, RefusesExports, RefusesFuns};
 ghost use Rattle.index_tables.specs.Shape.{import_shape, export_shape, fun_shape};
 ghost use Rattle.index_tables.specs.declared.refusal.TableRefusal.TheVariants as refusals;
 
-use crate::entry::{Entry, Export, Fun, Import, word};
+use crate::entry::{Entry, Export, Fun, Import};
 use crate::refusal::TableRefusal;
-use crate::table::{Atoms, Exports, Funs, Imports, Table};
-use bk_base::{Cursor, Text, TextFault};
+use crate::table::{Atoms, Exports, Funs, Imports};
+use bk_base::{Cursor, ItemList, Text};
+use bk_codec::{end, text, word};
 use std::alloc::Global;
 
 /// Reads the payload of a table of atoms, whole.
@@ -52,7 +53,7 @@ pub fn read_imports(alloc: Global, s: &[u8], atoms: &Atoms) -> Result<Imports, T
     ensures exact { GivesAll refusals.NoMemory (λ xs. xs) result
         (all_entries import_shape atoms.now s.now) }
 {
-    read_table(alloc, s, atoms)
+    read_entries(alloc, s, atoms)
 }
 
 /// Reads the payload of a table of exports over these atoms, whole. It is refused as [`read_imports`]
@@ -67,7 +68,7 @@ pub fn read_exports(alloc: Global, s: &[u8], atoms: &Atoms) -> Result<Exports, T
     ensures exact { GivesAll refusals.NoMemory (λ xs. xs) result
         (all_entries export_shape atoms.now s.now) }
 {
-    read_table(alloc, s, atoms)
+    read_entries(alloc, s, atoms)
 }
 
 /// Reads the payload of a table of local functions over these atoms, which is spelled as one of
@@ -82,7 +83,7 @@ pub fn read_locals(alloc: Global, s: &[u8], atoms: &Atoms) -> Result<Exports, Ta
     ensures exact { GivesAll refusals.NoMemory (λ xs. xs) result
         (all_entries export_shape atoms.now s.now) }
 {
-    read_table(alloc, s, atoms)
+    read_entries(alloc, s, atoms)
 }
 
 /// Reads the payload of a table of funs over these atoms, whole. It is refused as [`read_imports`]
@@ -97,10 +98,16 @@ pub fn read_funs(alloc: Global, s: &[u8], atoms: &Atoms) -> Result<Funs, TableRe
     ensures exact { GivesAll refusals.NoMemory (λ xs. xs) result
         (all_entries fun_shape atoms.now s.now) }
 {
-    read_table(alloc, s, atoms)
+    read_entries(alloc, s, atoms)
 }
 
-fn read_table<T: Entry>(alloc: Global, s: &[u8], atoms: &Atoms) -> Result<Table<T>, TableRefusal>
+/// Reads the payload of a table of entries over these atoms, whole. It is refused as [`read_imports`]
+/// says.
+pub fn read_entries<T: Entry>(
+    alloc: Global,
+    s: &[u8],
+    atoms: &Atoms,
+) -> Result<ItemList<T>, TableRefusal>
     ensures found { IfOk result (λ xs. SpellsTable T.shape.words T.shape.atoms atoms.now xs s.now) }
     ensures named { IfOk result (NamesAtoms T.shape.atoms atoms.now) }
     ensures fits { IfOk result (FitsWords T.shape.words) }
@@ -114,30 +121,21 @@ fn read_table<T: Entry>(alloc: Global, s: &[u8], atoms: &Atoms) -> Result<Table<
     all_entries(alloc, s, atoms)
 }
 
-fn atom_text(alloc: Global, bytes: &[u8], n: u32) -> Result<Text, TableRefusal>
-    ensures { GivesAll refusals.NoMemory (λ t. t) result (text_of n bytes.now) }
-{
-    match Text::from_bytes(alloc, bytes) {
-        Ok(text) => Ok(text),
-        Err(TextFault::NotUtf8) => Err(TableRefusal::AtomUtf8 { n }),
-        Err(TextFault::NoMemory) => Err(TableRefusal::NoMemory),
-    }
-}
-
 #[tactic(auto, unfolding(crate::specs::Reading::atom_at))]
 fn next_atom(alloc: Global, cur: &mut Cursor<'_>, n: u32) -> Result<Text, TableRefusal>
     ensures { Gives refusals.NoMemory (λ t. t) cur.new.rest result (atom_at n cur.old.rest) }
 {
     let len = cur.byte().ok_or(TableRefusal::Cut)?;
     let name = cur.take(usize::from(len)).ok_or(TableRefusal::Cut)?;
-    atom_text(alloc, name, n)
+    let bad = TableRefusal::AtomUtf8 { n };
+    text(alloc, name, bad, TableRefusal::NoMemory)
 }
 
 fn atoms(alloc: Global, cur: &mut Cursor<'_>, count: u32) -> Result<Atoms, TableRefusal>
     ensures { Gives refusals.NoMemory (λ names. names) cur.new.rest result
         (numbered_at atom_at 1 count cur.old.rest) }
 {
-    let mut names = Table::new(alloc);
+    let mut names = ItemList::new(alloc);
     for i in 0..count {
         let name = next_atom(alloc, cur, i + 1)?;
         names.push(name)?;
@@ -161,11 +159,11 @@ fn entries<T: Entry>(
     cur: &mut Cursor<'_>,
     atoms: &Atoms,
     count: u32,
-) -> Result<Table<T>, TableRefusal>
+) -> Result<ItemList<T>, TableRefusal>
     ensures { Gives refusals.NoMemory (λ xs. xs) cur.new.rest result
         (numbered_at (entry_at T.shape atoms.now) 0 count cur.old.rest) }
 {
-    let mut entries = Table::new(alloc);
+    let mut entries = ItemList::new(alloc);
     for i in 0..count {
         let entry = next_entry(cur, atoms, i)?;
         entries.push(entry)?;
@@ -177,27 +175,22 @@ fn all_atoms(alloc: Global, s: &[u8]) -> Result<Atoms, TableRefusal>
     ensures { GivesAll refusals.NoMemory (λ names. names) result (all_atoms s.now) }
 {
     let mut cur = Cursor::new(s);
-    let count = word(&mut cur)?;
+    let count = word(&mut cur, TableRefusal::Cut)?;
     let names = atoms(alloc, &mut cur, count)?;
-    end(&cur)?;
+    end(&cur, TableRefusal::Rest)?;
     Ok(names)
 }
 
-fn all_entries<T: Entry>(alloc: Global, s: &[u8], atoms: &Atoms) -> Result<Table<T>, TableRefusal>
+fn all_entries<T: Entry>(
+    alloc: Global,
+    s: &[u8],
+    atoms: &Atoms,
+) -> Result<ItemList<T>, TableRefusal>
     ensures { GivesAll refusals.NoMemory (λ xs. xs) result (all_entries T.shape atoms.now s.now) }
 {
     let mut cur = Cursor::new(s);
-    let count = word(&mut cur)?;
+    let count = word(&mut cur, TableRefusal::Cut)?;
     let entries = entries(alloc, &mut cur, atoms, count)?;
-    end(&cur)?;
+    end(&cur, TableRefusal::Rest)?;
     Ok(entries)
-}
-
-fn end(cur: &Cursor<'_>) -> Result<(), TableRefusal>
-    ensures { result ≡ alone refusals.Rest tt cur.now.rest }
-{
-    if !cur.is_empty() {
-        return Err(TableRefusal::Rest);
-    }
-    Ok(())
 }

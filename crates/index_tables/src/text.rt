@@ -1,17 +1,18 @@
 //! The tables as text.
 
-ghost use Rattle.std.specs.Prelude.{◌≡◌, ◌++◌, ℕ, List, All, IfOk, OnOk, decimal};
+ghost use Rattle.std.specs.Prelude.{◌≡◌, ◌++◌, ℕ, List, All, IfOk, OnOk};
 ghost use Rattle.ext_term.specs.Name.{name_text};
 ghost use Rattle.index_tables.specs.Atoms.{IsAtom, atom_name};
 ghost use Rattle.index_tables.specs.Entries.{NamesAtoms, import_atoms, export_atoms, fun_atoms};
-ghost use Rattle.ext_term.specs.Lines.{numbered_lines};
+ghost use Rattle.bk_text.specs.Lines.{numbered_lines};
 ghost use Rattle.index_tables.specs.Text.{function_text, import_text, atom_line, atoms_text, imports_text, exports_text, funs_text};
 
+use crate::atoms::atom_name;
 use crate::entry::{Entry, Export, Fun, Import};
-use crate::table::{Atoms, Exports, Funs, Imports, Table};
-use bk_base::{Bytes, NoMemory};
+use crate::table::{Atoms, Exports, Funs, Imports};
+use bk_base::{Bytes, ItemList, NoMemory};
+use bk_text::{put_marked, put_number};
 use ext_term::name_text;
-use itoa::{Buffer, Integer};
 use std::alloc::Global;
 
 /// The text of the atoms: a line `N NAME` for each, counted from 1.
@@ -25,12 +26,24 @@ pub fn atoms_text(alloc: Global, t: &Atoms) -> Result<Bytes, NoMemory>
     Ok(out)
 }
 
+/// The text of a table: the line of each entry, in order.
+pub fn entries_text<T: EntryLine>(
+    alloc: Global,
+    t: &ItemList<T>,
+    atoms: &Atoms,
+) -> Result<Bytes, NoMemory>
+    requires { NamesAtoms T.shape.atoms atoms.now t.now }
+    ensures { IfOk result (λ out. out.items ≡ T.text atoms.now t.now) }
+{
+    entry_lines(alloc, t, atoms)
+}
+
 /// The text of the imports: a line `N MODULE:FUNCTION/ARITY` for each, counted from 0.
 pub fn imports_text(alloc: Global, t: &Imports, atoms: &Atoms) -> Result<Bytes, NoMemory>
     requires { NamesAtoms import_atoms atoms.now t.now }
     ensures { IfOk result (λ out. out.items ≡ imports_text atoms.now t.now) }
 {
-    table_text(alloc, t, atoms)
+    entries_text(alloc, t, atoms)
 }
 
 /// The text of exports or local functions: a line `NAME/ARITY LABEL` for each.
@@ -38,7 +51,7 @@ pub fn exports_text(alloc: Global, t: &Exports, atoms: &Atoms) -> Result<Bytes, 
     requires { NamesAtoms export_atoms atoms.now t.now }
     ensures { IfOk result (λ out. out.items ≡ exports_text atoms.now t.now) }
 {
-    table_text(alloc, t, atoms)
+    entries_text(alloc, t, atoms)
 }
 
 /// The text of the funs: a line `N NAME/ARITY label L index I free F unique U` for each, counted
@@ -47,22 +60,34 @@ pub fn funs_text(alloc: Global, t: &Funs, atoms: &Atoms) -> Result<Bytes, NoMemo
     requires { NamesAtoms fun_atoms atoms.now t.now }
     ensures { IfOk result (λ out. out.items ≡ funs_text atoms.now t.now) }
 {
-    table_text(alloc, t, atoms)
+    entries_text(alloc, t, atoms)
 }
 
-/// An entry with a line of text.
-trait Shown: Entry {
+/// An entry that has a line of text, over the atoms and by its number in the table.
+pub trait EntryLine: Entry {
+    ghost use Rattle.bk_text.specs.Lines.{numbered_lines};
+
     ghost line: { List (List ℕ) → ℕ → Self → List ℕ };
 
+    ghost text: { List (List ℕ) → List Self → List ℕ };
+
+    /// Puts the line at the end.
     fn put_line(&self, out: &mut Bytes, number: usize, atoms: &Atoms) -> Result<(), NoMemory>
         requires { All (IsAtom atoms.now) (Self.shape.atoms self.now) }
         ensures { OnOk result (out.new.items ≡ out.old.items ++ line atoms.now number self.now) };
+
+    ghost is_text: { (names : List (List ℕ)) (xs : List Self) → numbered_lines 0 (line names) xs ≡ text names xs };
 }
 
-impl Shown for Import {
-    ghost use Rattle.index_tables.specs.Text.{import_line};
+impl EntryLine for Import {
+    ghost use Rattle.std.specs.Prelude.{refl};
+    ghost use Rattle.index_tables.specs.Text.{import_line, imports_text};
 
     ghost line = { import_line };
+
+    ghost text = { imports_text };
+
+    ghost is_text = { λ _ _. refl };
 
     fn put_line(&self, out: &mut Bytes, number: usize, atoms: &Atoms) -> Result<(), NoMemory> {
         put_number(out, number)?;
@@ -72,36 +97,50 @@ impl Shown for Import {
     }
 }
 
-impl Shown for Export {
-    ghost use Rattle.index_tables.specs.Text.{export_line};
+impl EntryLine for Export {
+    ghost use Rattle.bk_text.proofs.Lines.{lines-plain};
+    ghost use Rattle.index_tables.specs.Text.{export_line, exports_text};
 
     ghost line = { λ names _ x. export_line names x };
 
+    ghost text = { exports_text };
+
+    ghost is_text = { λ names xs. lines-plain 0 (export_line names) xs };
+
     fn put_line(&self, out: &mut Bytes, _number: usize, atoms: &Atoms) -> Result<(), NoMemory> {
         put_function(out, atoms, self.name, self.arity)?;
-        put_field(out, b" ", self.label)?;
+        put_marked(out, b" ", self.label)?;
         out.push(b'\n')
     }
 }
 
-impl Shown for Fun {
-    ghost use Rattle.index_tables.specs.Text.{fun_line};
+impl EntryLine for Fun {
+    ghost use Rattle.std.specs.Prelude.{refl};
+    ghost use Rattle.index_tables.specs.Text.{fun_line, funs_text};
 
     ghost line = { fun_line };
+
+    ghost text = { funs_text };
+
+    ghost is_text = { λ _ _. refl };
 
     fn put_line(&self, out: &mut Bytes, number: usize, atoms: &Atoms) -> Result<(), NoMemory> {
         put_number(out, number)?;
         out.push(b' ')?;
         put_function(out, atoms, self.name, self.arity)?;
-        put_field(out, b" label ", self.label)?;
-        put_field(out, b" index ", self.index)?;
-        put_field(out, b" free ", self.free)?;
-        put_field(out, b" unique ", self.unique)?;
+        put_marked(out, b" label ", self.label)?;
+        put_marked(out, b" index ", self.index)?;
+        put_marked(out, b" free ", self.free)?;
+        put_marked(out, b" unique ", self.unique)?;
         out.push(b'\n')
     }
 }
 
-fn table_text<T: Shown>(alloc: Global, t: &Table<T>, atoms: &Atoms) -> Result<Bytes, NoMemory>
+fn entry_lines<T: EntryLine>(
+    alloc: Global,
+    t: &ItemList<T>,
+    atoms: &Atoms,
+) -> Result<Bytes, NoMemory>
     requires { NamesAtoms T.shape.atoms atoms.now t.now }
     ensures { IfOk result (λ out. out.items ≡ numbered_lines 0 (T.line atoms.now) t.now) }
 {
@@ -135,26 +174,13 @@ fn put_function(out: &mut Bytes, atoms: &Atoms, name: u32, arity: u32) -> Result
     ensures { OnOk result (out.new.items ≡ out.old.items ++ function_text atoms.now name arity) }
 {
     put_name(out, atoms, name)?;
-    put_field(out, b"/", arity)
+    put_marked(out, b"/", arity)
 }
 
 fn put_name(out: &mut Bytes, atoms: &Atoms, number: u32) -> Result<(), NoMemory>
     requires { IsAtom atoms.now number }
     ensures { OnOk result (out.new.items ≡ out.old.items ++ name_text (atom_name atoms.now number)) }
 {
-    let name = atoms.name(number).unwrap();
+    let name = atom_name(atoms, number).unwrap();
     name_text(name.as_bytes(), out)
-}
-
-fn put_field(out: &mut Bytes, label: &[u8], number: u32) -> Result<(), NoMemory>
-    ensures { OnOk result (out.new.items ≡ out.old.items ++ label.now ++ decimal number) }
-{
-    out.extend(label)?;
-    put_number(out, number)
-}
-
-fn put_number<I: Integer>(out: &mut Bytes, number: I) -> Result<(), NoMemory>
-    ensures { OnOk result (out.new.items ≡ out.old.items ++ I.text number) }
-{
-    out.extend(Buffer::new().format(number).as_bytes())
 }

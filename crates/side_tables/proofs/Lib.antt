@@ -1,5 +1,11 @@
-pub mod Items
-pub mod Places
-pub mod Tables
-pub mod Loop
+pub mod LineItems
+pub mod LinePlaces
+pub mod LineTables
+pub mod LineLoop
 pub mod LiteralTables
+pub mod LiteralShowing
+pub mod Ends
+pub mod LineStops
+pub mod LineRefusals
+pub mod LineSteadiness
+pub mod LiteralSteadiness

@@ -5,6 +5,8 @@ use Rattle.std.specs.Result.{result_ok}
 use Rattle.std.proofs.lemmas.Bool.{eqb-true, ne_eqb}
 use Rattle.bk_codec.specs.Reading.{◌>>=◌, made_of, bytes_at, many_at, ended, GivesAll}
 use Rattle.bk_codec.specs.Spelling.{IsBytes, Then, SpellsMany, SpellsNumber, SpellsWord, SpellsCounted, SpellsBytes}
+use Rattle.bk_codec.specs.Exact.{IsExact}
+use Rattle.bk_codec.proofs.Exact.{exact_from}
 use Rattle.bk_codec.proofs.Steps.{bind_ok, made_ok, ok_is, chosen}
 use Rattle.bk_codec.proofs.Agreement.{Agrees, Takes, Takes-then, Takes-weaker, one_form, bytes_agree, many_agree, IsBytes-front, IsBytes-back}
 use Rattle.bk_codec.proofs.Ended.{ended_takes, ended_again}
@@ -18,9 +20,9 @@ use Rattle.side_tables.specs.declared.refusal.SideRefusal.{SideRefusal}
 use Rattle.side_tables.specs.declared.refusal.SideRefusal.TheVariants.{Cut, Rest, NoMemory}
 use Rattle.side_tables.specs.Literal.{PlainLiteral}
 use Rattle.side_tables.specs.LiteralSpelling.{IsTermOf, SpellsLiteral, SpellsLiterals}
-use Rattle.side_tables.specs.Reading.{word_at}
-use Rattle.side_tables.specs.LiteralReading.{term_in, literal_of, literal_at, literals_at, literals_of}
-use Rattle.side_tables.proofs.Tables.{words_agree, word_again}
+use Rattle.side_tables.specs.Words.{word_at}
+use Rattle.side_tables.specs.LiteralReading.{term_in, literal_of, sized_at, literal_at, literals_at, literals_of}
+use Rattle.side_tables.proofs.LineTables.{words_agree, word_again}
 
 -- ---- terms
 
@@ -41,16 +43,16 @@ term_read bytes fits t = (λ e. file_takes bytes t fits (some_ok (term_of bytes)
 -- ---- a literal
 
 -- the bytes of a literal that is read there
-record SpellsRead (l : PlainLiteral) (text : List ℕ) : Type 0 where
-  spelled : SpellsBytes 4 l.bytes text
-  term_is : l.term ≡ term_in l.bytes
+pub record SpellsRead (l : PlainLiteral) (text : List ℕ) : Type 0 where
+  pub spelled : SpellsBytes 4 l.bytes text
+  pub term_is : l.term ≡ term_in l.bytes
 
 literal_takes : (bytes : List ℕ) (l : PlainLiteral) (rest : List ℕ) → IsBytes bytes → literal_at bytes ≡ Ok (l, rest) → Takes (SpellsRead l) bytes rest
 literal_takes bytes l rest fits e =
-    let size = bind_ok (word_at bytes) (λ (size : ℕ × List ℕ). made_of literal_of (bytes_at Cut size.0 size.1)) (l, rest) e in
-    let s = made_ok literal_of (bytes_at Cut size.0.0 size.0.1) l rest size.2 in
+    let s = made_ok literal_of (sized_at bytes) l rest e in
+    let size = bind_ok (word_at bytes) (λ (size : ℕ × List ℕ). bytes_at Cut size.0 size.1) (s.0, rest) s.1 in
     let first = words_agree.takes bytes size.0.0 size.0.1 fits size.1 in
-    let second = (bytes_agree Cut size.0.0).takes size.0.1 s.0 rest first.fits s.1 in
+    let second = (bytes_agree Cut size.0.0).takes size.0.1 s.0 rest first.fits size.2 in
     let many : length s.0 ≡ size.0.0 = second.is.1 in
     let took : Takes (SpellsBytes 4 s.0) bytes rest =
     Takes-then (Takes-weaker (λ text is. subst (λ (n : ℕ). SpellsNumber 4 n text) (sym many) is) first) (Takes-weaker (λ text is. is.0) second) in
@@ -61,7 +63,7 @@ literal_again l text rest is =
     let size : word_at (text ++ rest) ≡ Ok (length l.bytes, is.spelled.back ++ rest) = word_again (length l.bytes) text rest is.spelled in
     let bytes : bytes_at Cut (length l.bytes) (is.spelled.back ++ rest) ≡ Ok (l.bytes, rest) = (bytes_agree Cut (length l.bytes)).again l.bytes is.spelled.back rest (is.spelled.back_is, refl) in
     let whole : literal_of l.bytes ≡ l = ap (λ (t : Option Term). record { bytes = l.bytes; term = t }) (sym is.term_is) in
-    ap (λ (r : Result (ℕ × List ℕ) SideRefusal). r >>= λ n. made_of literal_of (bytes_at Cut n.0 n.1)) size
+    ap (λ (r : Result (ℕ × List ℕ) SideRefusal). made_of literal_of (r >>= λ n. bytes_at Cut n.0 n.1)) size
     ∙ ap (made_of literal_of) bytes
     ∙ ap (λ (m : PlainLiteral). Ok (m, rest)) whole
 
@@ -109,7 +111,7 @@ literals_again ls text rest is =
     ap (λ (r : Result (ℕ × List ℕ) SideRefusal). r >>= λ n. many_at literal_at n.0 n.1) (word_again (length ls) text rest is)
     ∙ (many_agree literal_agrees).again ls is.back rest is.back_is
 
-literals_agree : Agrees literals_at (SpellsCounted SpellsRead)
+pub literals_agree : Agrees literals_at (SpellsCounted SpellsRead)
 literals_agree = record { takes = literals_take; again = literals_again }
 
 -- ---- the table
@@ -145,7 +147,7 @@ table_takes bytes l fits e =
     ]
 
 -- the word in front
-word_first : {Q : List ℕ → Type 0} (x : ℕ) (bytes : List ℕ) (is : Then (SpellsWord x) Q bytes) → word_at bytes ≡ Ok (x, is.back)
+pub word_first : {Q : List ℕ → Type 0} (x : ℕ) (bytes : List ℕ) (is : Then (SpellsWord x) Q bytes) → word_at bytes ≡ Ok (x, is.back)
 word_first x bytes is = ap word_at is.joined ∙ words_agree.again x is.front is.back is.front_is
 
 table_again : (bytes : List ℕ) (l : Literals) → IsBytes bytes → SpellsLiterals l bytes → literals_of bytes ≡ Ok l
@@ -162,6 +164,19 @@ table_again bytes (Plain ls) fits is =
 table_again bytes Packed fits is =
     ap (λ (r : Result (ℕ × List ℕ) SideRefusal). r >>= behind) (word_first is.first bytes is.spelled)
     ∙ ap (λ (b : Bool). cond b (ended Rest (literals_at is.spelled.back) >>= λ ls. Ok (Plain ls)) (Ok Packed)) (ne_eqb is.first 0 is.other)
+
+-- ---- the reading says the same
+
+abbrev IsBytesOf : Literals → List ℕ → Type 0
+IsBytesOf l bytes = IsBytes bytes × SpellsLiterals l bytes
+
+pub literals_exact : IsExact literals_of SpellsLiterals
+literals_exact =
+    let exact : IsExact literals_of IsBytesOf = exact_from (λ bytes l fits e. (fits, table_takes bytes l fits e)) (λ bytes l is. table_again bytes l is.0 is.1) in
+    record {
+      accepted = λ bytes l fits. (λ e. ((exact.accepted bytes l fits).0 e).1, λ is. (exact.accepted bytes l fits).1 (fits, is));
+      refused = λ bytes fits. (λ e l is. (exact.refused bytes fits).0 e l (fits, is), λ none. (exact.refused bytes fits).1 (λ l is. none l is.1));
+    }
 
 -- ---- what a call answers
 

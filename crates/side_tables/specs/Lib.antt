@@ -1,7 +1,9 @@
 pub mod Literal
-pub mod Spelling
-pub mod Reading
-pub mod Text
+pub mod Words
+pub mod LineSpelling
+pub mod LineReading
+pub mod LineRefusal
+pub mod LineText
 pub mod LiteralSpelling
 pub mod LiteralReading
 pub mod LiteralText

@@ -1,20 +1,13 @@
 -- A literal as contracts see it: its bytes without where they lie, and the term that they are.
-use Rattle.std.specs.Prelude.{ℕ, List, map, Option, refl}
+use Rattle.std.specs.Prelude.{ℕ, List, Option, refl}
 use Rattle.std.specs.Coded.{Coded, code_by, coded×, coded_list, coded_option, coded_ℕ}
 use Rattle.ext_term.specs.contracts.term.Term.{the_row}
 use Rattle.ext_term.specs.declared.term.Term.{Term}
-use Rattle.side_tables.specs.declared.literal.Literal.{Literal}
 
 -- a literal without where its bytes lie
 pub record PlainLiteral : Type 0 where
   pub bytes : List ℕ
   pub term : Option Term
-
-abbrev pub plain : Literal → PlainLiteral
-plain l = record { bytes = l.bytes.now; term = l.term }
-
-abbrev pub plains : List Literal → List PlainLiteral
-plains ls = map plain ls
 
 -- a literal is stored as the pair of its bytes and its term
 abbrev pub literal_code : Coded PlainLiteral

@@ -9,7 +9,7 @@ use Rattle.side_tables.specs.declared.literals.Literals.TheVariants.{Plain, Pack
 use Rattle.side_tables.specs.declared.refusal.SideRefusal.{SideRefusal}
 use Rattle.side_tables.specs.declared.refusal.SideRefusal.TheVariants.{Cut, Rest}
 use Rattle.side_tables.specs.Literal.{PlainLiteral}
-use Rattle.side_tables.specs.Reading.{word_at}
+use Rattle.side_tables.specs.Words.{word_at}
 
 -- the term that bytes are; every refusal of them as a term leaves them without one
 abbrev pub term_in : List ℕ → Option Term
@@ -19,8 +19,11 @@ abbrev pub literal_of : List ℕ → PlainLiteral
 literal_of bytes = record { bytes = bytes; term = term_in bytes }
 
 -- a word with a number of bytes, and so many bytes
+abbrev pub sized_at : List ℕ → Result (List ℕ × List ℕ) SideRefusal
+sized_at bytes = word_at bytes >>= λ size. bytes_at Cut size.0 size.1
+
 abbrev pub literal_at : List ℕ → Result (PlainLiteral × List ℕ) SideRefusal
-literal_at bytes = word_at bytes >>= λ size. made_of literal_of (bytes_at Cut size.0 size.1)
+literal_at bytes = made_of literal_of (sized_at bytes)
 
 -- a word with a number of literals, and so many literals
 unfoldable pub literals_at : List ℕ → Result (List PlainLiteral × List ℕ) SideRefusal

@@ -1,28 +1,31 @@
 //! The tables of lines and of literals of a module, read from their chunks and written as text.
 #![tactic(auto)]
 
-mod item;
 mod laws;
+mod line_item;
+mod line_reading;
+mod line_text;
 mod lines;
 mod literal;
 mod literal_reading;
+mod literal_showing;
 mod literal_text;
 mod literals;
-mod reading;
 mod refusal;
-mod rows;
-mod text;
 
-pub use laws::{one_literal_table, one_table};
-pub use lines::Lines;
+pub use laws::{
+    fronts_are_cut, lines_are_refused, one_literal_table, one_table, reading_is_exact,
+    refusals_stand,
+};
+pub use line_reading::read_lines;
+pub use line_text::lines_text;
+pub use lines::{BytesList, Lines, PlaceList};
 pub use literal::{Literal, LiteralList};
 pub use literal_reading::read_literals;
+pub use literal_showing::literals_shown;
 pub use literal_text::literals_text;
 pub use literals::Literals;
-pub use reading::read_lines;
 pub use refusal::SideRefusal;
-pub use rows::{BytesList, PlaceList, Rows};
-pub use text::lines_text;
 
 #[cfg(test)]
 mod tests;

@@ -1,6 +1,13 @@
 //! The table of lines.
 
-use crate::rows::{BytesList, PlaceList};
+use bk_base::{ByteList, ItemList};
+
+/// Places in source files, each the number of its file and its line. File 0 is the module's own, and
+/// the others are those of the file names, counted from 1.
+pub type PlaceList = ItemList<(u32, i128)>;
+
+/// Names of files, as their bytes.
+pub type BytesList = ItemList<ByteList>;
 
 /// What the instructions of a module say of source lines.
 #[derive(Debug, Drop)]

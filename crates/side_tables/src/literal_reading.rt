@@ -1,18 +1,17 @@
 //! Reading the table of literals.
 
 ghost use Rattle.std.specs.Prelude.{◌≡◌, ◌⊎◌, IfOk};
-ghost use Rattle.bk_codec.specs.Reading.{Gives, GivesAll, many_at};
-ghost use Rattle.side_tables.specs.Literal.{plain};
+ghost use Rattle.bk_codec.specs.Reading.{Gives, GivesAll, Reads, many_at};
 ghost use Rattle.side_tables.specs.LiteralSpelling.{SpellsLiterals};
-ghost use Rattle.side_tables.specs.LiteralReading.{term_in, literal_at, literals_at, literals_of};
+ghost use Rattle.side_tables.specs.LiteralReading.{term_in, sized_at, literal_at, literals_at, literals_of};
 ghost use Rattle.side_tables.specs.declared.literals.Literals.{Literals};
 ghost use Rattle.side_tables.specs.declared.refusal.SideRefusal.TheVariants as refusals;
 
 use crate::literal::{Literal, LiteralList};
 use crate::literals::Literals;
-use crate::reading::{end, word};
 use crate::refusal::SideRefusal;
 use bk_base::{Cursor, NoMemory};
+use bk_codec::{end, word};
 use ext_term::{Term, TermRefusal, read_term};
 use std::alloc::Global;
 
@@ -44,11 +43,11 @@ fn whole_table<'a>(alloc: Global, s: &'a [u8]) -> Result<Literals<'a>, SideRefus
     ensures { GivesAll refusals.NoMemory (λ l. l) result (literals_of s.now) }
 {
     let mut cur = Cursor::new(s);
-    if word(&mut cur)? != 0 {
+    if word(&mut cur, SideRefusal::Cut)? != 0 {
         return Ok(Literals::Packed);
     }
     let literals = counted(alloc, &mut cur)?;
-    end(&cur)?;
+    end(&cur, SideRefusal::Rest)?;
     Ok(Literals::Plain(literals))
 }
 
@@ -57,7 +56,7 @@ fn whole_table<'a>(alloc: Global, s: &'a [u8]) -> Result<Literals<'a>, SideRefus
 fn counted<'a>(alloc: Global, cur: &mut Cursor<'a>) -> Result<LiteralList<'a>, SideRefusal>
     ensures { Gives refusals.NoMemory (λ ls. ls) cur.new.rest result (literals_at cur.old.rest) }
 {
-    let count = word(cur)?;
+    let count = word(cur, SideRefusal::Cut)?;
     many(alloc, cur, count)
 }
 
@@ -74,14 +73,21 @@ fn many<'a>(alloc: Global, cur: &mut Cursor<'a>, count: u32) -> Result<LiteralLi
     Ok(literals)
 }
 
-// The next literal.
-fn literal<'a>(alloc: Global, cur: &mut Cursor<'a>) -> Result<Literal<'a>, SideRefusal>
-    ensures { Gives refusals.NoMemory plain cur.new.rest result (literal_at cur.old.rest) }
+/// The next literal.
+pub(crate) fn literal<'a>(alloc: Global, cur: &mut Cursor<'a>) -> Result<Literal<'a>, SideRefusal>
+    ensures { Gives refusals.NoMemory (λ l. l) cur.new.rest result (literal_at cur.old.rest) }
 {
-    let size = word(cur)?;
-    let bytes = cur.take(size as usize).ok_or(SideRefusal::Cut)?;
+    let bytes = sized(cur)?;
     let term = term(alloc, bytes)?;
     Ok(Literal { bytes, term })
+}
+
+/// The bytes of the next literal.
+pub(crate) fn sized<'a>(cur: &mut Cursor<'a>) -> Result<&'a [u8], SideRefusal>
+    ensures { Reads (λ b. b.now) cur.new.rest result (sized_at cur.old.rest) }
+{
+    let size = word(cur, SideRefusal::Cut)?;
+    cur.take(size as usize).ok_or(SideRefusal::Cut)
 }
 
 // The term that the bytes are, if they are one.

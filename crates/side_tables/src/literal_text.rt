@@ -1,15 +1,14 @@
 //! The table of literals as text.
 
 ghost use Rattle.std.specs.Prelude.{◌≡◌, ◌++◌, IfOk, OnOk};
-ghost use Rattle.side_tables.specs.Literal.{plain};
-ghost use Rattle.ext_term.specs.Lines.{numbered_lines};
-ghost use Rattle.side_tables.specs.LiteralText.{shown, literal_line, literals_text};
+ghost use Rattle.bk_text.specs.Lines.{numbered_lines};
+ghost use Rattle.side_tables.specs.LiteralText.{term_or_bytes, literal_line, literals_text};
 
 use crate::literal::{Literal, LiteralList};
 use crate::literals::Literals;
-use crate::text::put_number;
 use bk_base::{Bytes, NoMemory};
-use ext_term::{put_hex, put_term};
+use bk_text::{put_hex, put_number};
+use ext_term::put_term;
 use std::alloc::Global;
 
 /// The text of a table: for each literal, counted from 0, the line `N TERM` with its term
@@ -36,25 +35,29 @@ fn put_literals(out: &mut Bytes, literals: &LiteralList<'_>) -> Result<(), NoMem
     Ok(())
 }
 
-// A line `N TERM` or `N bytes HEX`.
-fn put_literal(out: &mut Bytes, number: usize, literal: &Literal<'_>) -> Result<(), NoMemory>
-    ensures { OnOk result (out.new.items ≡ out.old.items ++ literal_line number (plain literal.now)) }
+/// Puts a line `N TERM` or `N bytes HEX` at the end.
+pub(crate) fn put_literal(
+    out: &mut Bytes,
+    number: usize,
+    literal: &Literal<'_>,
+) -> Result<(), NoMemory>
+    ensures { OnOk result (out.new.items ≡ out.old.items ++ literal_line number literal.now) }
 {
-    put_number(out, b"", number)?;
+    put_number(out, number)?;
     out.push(b' ')?;
-    put_shown(out, literal)?;
+    put_term_or_bytes(out, literal)?;
     out.push(b'\n')
 }
 
 // What a line shows of a literal.
-fn put_shown(out: &mut Bytes, literal: &Literal<'_>) -> Result<(), NoMemory>
-    ensures { OnOk result (out.new.items ≡ out.old.items ++ shown literal.now.term literal.now.bytes.now) }
+fn put_term_or_bytes(out: &mut Bytes, literal: &Literal<'_>) -> Result<(), NoMemory>
+    ensures { OnOk result (out.new.items ≡ out.old.items ++ term_or_bytes literal.now.term literal.now.bytes) }
 {
     match &literal.term {
         Some(term) => put_term(term, out),
         None => {
             out.extend(b"bytes ")?;
-            put_hex(literal.bytes, out)
+            put_hex(out, literal.bytes)
         }
     }
 }

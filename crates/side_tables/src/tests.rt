@@ -1,5 +1,4 @@
 use super::*;
-use bk_base::{ByteList, NoMemory};
 use std::test::Fail;
 
 // Payloads, each with its text or its refusal.
@@ -87,43 +86,19 @@ const LITERALS: [(&[u8], &str); 9] = [
 fn literals_are_read_and_shown(rt: HostRuntime) -> Result<(), Fail> {
     one_literal_table();
     for (payload, expected) in LITERALS {
+        let shown = literals_shown(rt.alloc(), payload);
         match read_literals(rt.alloc(), payload) {
             Ok(literals) => {
                 let text = literals_text(rt.alloc(), &literals)?;
                 assert_eq!(rt; text.as_slice(), expected.as_bytes(), "{payload:?}");
+                assert_eq!(rt; shown?.as_slice(), expected.as_bytes(), "{payload:?}");
             }
             Err(refusal) => {
                 let text = format!(in rt.alloc(); "{refusal:?}")?;
                 assert_eq!(rt; text.as_str(), expected, "{payload:?}");
+                assert_eq!(rt; shown.err(), Some(refusal), "{payload:?}");
             }
         }
     }
-    Ok(())
-}
-
-#[test]
-fn literals_are_found_by_number(rt: HostRuntime) -> Result<(), Fail> {
-    let mut literals = LiteralList::new(rt.alloc());
-    assert!(rt; literals.is_empty() && literals.get(0).is_none());
-    literals.push(Literal {
-        bytes: b"a",
-        term: None,
-    })?;
-    let first = literals.get(0).ok_or("no literal")?;
-    assert!(rt; first.bytes == b"a".as_slice() && first.term.is_none());
-    assert_eq!(rt; (literals.len(), literals.as_slice().len()), (1, 1));
-    Ok(())
-}
-
-#[test]
-fn rows_are_found_by_number(rt: HostRuntime) -> Result<(), Fail> {
-    let mut places = PlaceList::new(rt.alloc());
-    assert!(rt; places.is_empty() && places.get(0).is_none());
-    places.push((1, 3))?;
-    assert_eq!(rt; (places.len(), places.get(0)), (1, Some(&(1, 3))));
-    let mut names = BytesList::new(rt.alloc());
-    names.push(ByteList::from_slice(rt.alloc(), b"a")?)?;
-    assert_eq!(rt; names.as_slice()[0].as_slice(), b"a".as_slice());
-    assert!(rt; SideRefusal::from(NoMemory) == SideRefusal::NoMemory);
     Ok(())
 }

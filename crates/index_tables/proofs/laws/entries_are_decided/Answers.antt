@@ -1,4 +1,5 @@
-use Rattle.index_tables.specs.Shape.{import_shape, import_is_shape, export_shape, export_is_shape, fun_shape, fun_is_shape}
+use Rattle.index_tables.specs.Shape.{import_shape, export_shape, fun_shape}
+use Rattle.index_tables.proofs.Shapes.{import_is_shape, export_is_shape, fun_is_shape}
 use Rattle.index_tables.proofs.EntrySpelling.{entries_decided}
 use Rattle.index_tables.proofs.laws.entries_are_decided.Goals as goal
 

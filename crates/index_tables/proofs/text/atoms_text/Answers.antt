@@ -1,6 +1,6 @@
 use Rattle.std.proofs.Common.{◌+◌, [], arith}
 use Rattle.index_tables.specs.Text.{atom_line}
-use Rattle.ext_term.proofs.Lines.{line_written}
+use Rattle.bk_text.proofs.Lines.{line_written}
 use Rattle.index_tables.proofs.text.atoms_text.Goals as goal
 
 pub loop-i-preserved : goal.loop-i-preserved

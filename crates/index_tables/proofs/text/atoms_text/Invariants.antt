@@ -1,5 +1,5 @@
 use Rattle.std.proofs.Common.{◌≡◌, take}
-use Rattle.ext_term.specs.Lines.{numbered_lines}
+use Rattle.bk_text.specs.Lines.{numbered_lines}
 use Rattle.index_tables.specs.Text.{atom_line}
 use Rattle.index_tables.proofs.text.atoms_text.Given as goal
 

@@ -2,7 +2,6 @@ use Rattle.std.proofs.lemmas.Result.{err_from_is_err_and}
 use Rattle.bk_codec.specs.Reading.{many_at}
 use Rattle.bk_codec.proofs.Loop.{goes_on, ends, is_done}
 use Rattle.side_tables.specs.declared.refusal.SideRefusal.TheVariants.{NoMemory}
-use Rattle.side_tables.specs.Literal.{plain}
 use Rattle.side_tables.specs.LiteralReading.{literal_at}
 use Rattle.side_tables.proofs.literal_reading.many.Goals as goal
 
@@ -14,7 +13,7 @@ returns-in_err-literal c =
 pub loop-preserved : goal.loop-preserved
 loop-preserved c =
     rw c.in_ok-push.ensures.ok
-    (goes_on literal_at c.loop.literals c.args.count c.loop.counter c.loop.cur.rest c.literal.new.cur.rest (plain c.in_ok-literal.literal) (many_at literal_at c.args.count c.args.cur.now.rest) c.loop-test.true c.in_ok-literal.ensures c.loop.invariant)
+    (goes_on literal_at c.loop.literals c.args.count c.loop.counter c.loop.cur.rest c.literal.new.cur.rest c.in_ok-literal.literal (many_at literal_at c.args.count c.args.cur.now.rest) c.loop-test.true c.in_ok-literal.ensures c.loop.invariant)
 
 pub returns : goal.returns
 returns c = is_done literal_at c.loop.literals c.args.count c.loop.counter c.loop.cur.rest (many_at literal_at c.args.count c.args.cur.now.rest) c.loop-test.false c.loop.invariant

@@ -1,5 +1,5 @@
 use Rattle.std.proofs.Common.{◌≡◌, ◌++◌, take}
-use Rattle.ext_term.specs.Lines.{numbered_lines}
+use Rattle.bk_text.specs.Lines.{numbered_lines}
 use Rattle.side_tables.specs.LiteralText.{literal_line}
 use Rattle.side_tables.proofs.literal_text.put_literals.Given as goal
 

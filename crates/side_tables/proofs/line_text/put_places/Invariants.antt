@@ -1,0 +1,7 @@
+use Rattle.std.proofs.Common.{◌≡◌, ◌++◌, take}
+use Rattle.bk_text.specs.Lines.{numbered_lines}
+use Rattle.side_tables.specs.LineText.{place_line}
+use Rattle.side_tables.proofs.line_text.put_places.Given as goal
+
+abbrev pub invariant-loop-i : goal.invariant-loop-i
+invariant-loop-i l = l.out.items ≡ l.fn.out.items ++ numbered_lines 1 place_line (take l.i l.l.lines)
