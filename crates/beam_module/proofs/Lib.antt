@@ -1,2 +1,4 @@
 pub mod ChunkLemmas
 pub mod Values
+pub mod Files
+pub mod One

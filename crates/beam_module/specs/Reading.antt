@@ -1,6 +1,6 @@
 -- How a file is read: the form, and then the code, with the first refusal.
-use Rattle.std.specs.Prelude.{ℕ, List, [], ◌∷◌, codes, bytes_eq, Result, Ok, Err, if◌then◌else◌}
-use Rattle.bk_codec.specs.Reading.{◌>>=◌}
+use Rattle.std.specs.Prelude.{ℕ, List, [], ◌∷◌, codes, bytes_eq, Result, Ok, if◌then◌else◌}
+use Rattle.bk_codec.specs.Reading.{◌>>=◌, refused_as}
 use Rattle.iff_form.specs.Chunk.{PlainChunk}
 use Rattle.iff_form.specs.Reading.{form_of}
 use Rattle.code_chunk.specs.Reading.{code_at}
@@ -8,11 +8,6 @@ use Rattle.beam_module.specs.declared.chunk_value.ChunkVal.TheVariants as values
 use Rattle.beam_module.specs.declared.refusal.ModuleRefusal.{ModuleRefusal}
 use Rattle.beam_module.specs.declared.refusal.ModuleRefusal.TheVariants as refusals
 use Rattle.beam_module.specs.File.{FileChunk}
-
--- what was read, or the refusal as one of the file
-abbrev pub refused_as : {A E : Type 0} → (E → ModuleRefusal) → Result A E → Result A ModuleRefusal
-refused_as why (Ok x) = Ok x
-refused_as why (Err e) = Err (why e)
 
 -- the value of a chunk
 abbrev pub value_of : PlainChunk → Result FileChunk ModuleRefusal

@@ -1,8 +1,10 @@
 //! Reading a file.
 
-ghost use Rattle.std.specs.Prelude.{◌≡◌, codes, true, bytes_eq};
+ghost use Rattle.std.specs.Prelude.{◌≡◌, ◌⊎◌, List, codes, true, bytes_eq, IfOk, Ok, Err};
 ghost use Rattle.bk_codec.specs.Reading.{GivesAll};
 ghost use Rattle.iff_form.specs.Chunk.{plain, plains};
+ghost use Rattle.iff_form.specs.Form.{IsForm};
+ghost use Rattle.beam_module.specs.File.{FileChunk, IsFile};
 ghost use Rattle.beam_module.specs.Reading.{file_of, form_or, value_of, values_of};
 
 use crate::chunk_value::ChunkVal;
@@ -17,7 +19,8 @@ use std::alloc::Global;
 const CODE: Id = Id(*b"Code");
 
 fn form_from<'a>(alloc: Global, bytes: &'a [u8]) -> Result<Form<'a>, ModuleRefusal>
-    ensures { GivesAll ModuleRefusal.NoMemory (λ chunks. chunks) result (form_or bytes.now) }
+    ensures found { IfOk result (λ chunks. IsForm chunks bytes.now) }
+    ensures exact { GivesAll ModuleRefusal.NoMemory (λ chunks. chunks) result (form_or bytes.now) }
 {
     match read_form(alloc, bytes) {
         Ok(form) => Ok(form),
@@ -57,12 +60,23 @@ fn values_from(alloc: Global, chunks: &[Chunk<'_>]) -> Result<Vec<(Id, ChunkVal)
     Ok(values)
 }
 
-/// Reads the value of the file that the whole of the bytes is: its form, and the code of the chunk
-/// `Code` where there is one. A refusal of the form comes before one of the code.
-pub fn read_file(alloc: Global, bytes: &[u8]) -> Result<FileVal, ModuleRefusal>
+fn whole_file(alloc: Global, bytes: &[u8]) -> Result<FileVal, ModuleRefusal>
     ensures { GivesAll ModuleRefusal.NoMemory (λ v. v) result (file_of bytes.now) }
 {
     let form = form_from(alloc, bytes)?;
     let chunks = values_from(alloc, form.chunks())?;
     Ok(FileVal { chunks })
+}
+
+/// Reads the value of the file that the whole of the bytes is: its form, and the code of the chunk
+/// `Code` where there is one. A refusal of the form comes before one of the code.
+pub fn read_file(alloc: Global, bytes: &[u8]) -> Result<FileVal, ModuleRefusal>
+    // The bytes are a file of what is read.
+    ensures found { IfOk result (λ v. IsFile v bytes.now) }
+    // Each file is read, unless memory runs out.
+    ensures only { (v : List FileChunk) → IsFile v bytes.now → (result ≡ Ok v) ⊎ (result ≡ Err ModuleRefusal.NoMemory) }
+    // What the reading from left to right gives.
+    ensures exact { GivesAll ModuleRefusal.NoMemory (λ v. v) result (file_of bytes.now) }
+{
+    whole_file(alloc, bytes)
 }

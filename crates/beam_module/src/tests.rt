@@ -29,5 +29,7 @@ fn files_are_read_or_refused(rt: HostRuntime) -> Result<(), Fail> {
     ] {
         assert_eq!(rt; read_file(rt.alloc(), bytes).err(), Some(refusal));
     }
+    reading_is_exact();
+    one_file();
     Ok(())
 }

@@ -3,7 +3,7 @@ use Rattle.std.proofs.Common.{◌≡◌, ℕ, ◌+◌, ◌≤◌, List, ◌++◌
 use Rattle.std.proofs.lemmas.List.{drop_at, drop-drop, take-append-drop, length-drop}
 use Rattle.byteorder.specs.Endian.{big_number}
 use Rattle.byteorder.specs.Numbers.{big_from-lt, big_number-reads_back, length-bytes_high_first}
-use Rattle.bk_codec.specs.Reading.{◌>>=◌, whole_of}
+use Rattle.bk_codec.specs.Reading.{◌>>=◌}
 use Rattle.bk_codec.specs.Spelling.{IsBytes, Then, SpellsMany, SpellsWord}
 use Rattle.bk_codec.proofs.Numbers.{big_bytes-big_number}
 use Rattle.bk_codec.proofs.Steps.{bind_ok, bind_at_ok, ok_is}
@@ -12,9 +12,10 @@ use Rattle.op_table.specs.Instruction.{Instruction}
 use Rattle.code_chunk.specs.declared.code.CodeVal.{CodeVal}
 use Rattle.code_chunk.specs.declared.refusal.CodeRefusal.{CodeRefusal}
 use Rattle.code_chunk.specs.Spelling.{SpellsInstr, SpellsCode}
-use Rattle.code_chunk.specs.Code.{IsCode}
-use Rattle.code_chunk.specs.Reading.{instr_at, header_at, code_of, code_at}
-use Rattle.code_chunk.proofs.Instrs.{instrs_agree, instrs_proper}
+use Rattle.code_chunk.specs.Code.{CodeMeetsType, IsProperCode}
+use Rattle.code_chunk.specs.Reading.{instrs_at, header_at, code_of, code_at}
+use Rattle.code_chunk.proofs.Front.{whole_is}
+use Rattle.code_chunk.proofs.Instrs.{instrs_agree, instrs_meet_type, instrs_proper}
 use Rattle.code_chunk.proofs.Headers.{IsHeader, header_takes, header_again}
 
 -- ---- words
@@ -68,10 +69,10 @@ spell_code header text rest instrs fits is spelt =
 pub code_takes : (bytes : List ℕ) (c : CodeVal) → IsBytes bytes → code_at bytes ≡ Ok c → SpellsCode c bytes
 unfolding code_at
 code_takes bytes c fits e =
-    let header = bind_ok (header_at bytes) (λ (header : List ℕ × List ℕ). whole_of (instr_at (length bytes)) header.1 >>= λ instrs. Ok (code_of header.0 instrs)) c e in
-    let instrs = bind_ok (whole_of (instr_at (length bytes)) header.0.1) (λ (instrs : List Instruction). Ok (code_of header.0.0 instrs)) c header.2 in
+    let header = bind_ok (header_at bytes) (λ (header : List ℕ × List ℕ). instrs_at (length bytes) (length header.1) header.1 >>= λ instrs. Ok (code_of header.0 instrs)) c e in
+    let instrs = bind_ok (instrs_at (length bytes) (length header.0.1) header.0.1) (λ (instrs : List Instruction). Ok (code_of header.0.0 instrs)) c header.2 in
     let took = header_takes bytes header.0.0 header.0.1 fits header.1 in
-    let spelt = (instrs_agree (length bytes)).takes header.0.1 instrs.0 took.fits instrs.1 in
+    let spelt = (instrs_agree (length bytes)).takes header.0.1 instrs.0 took.fits (sym (whole_is (length bytes) header.0.1) ∙ instrs.1) in
     let text : IsBytes took.text = IsBytes-front took.text header.0.1 (subst IsBytes took.joined fits) in
     let back : IsBytes took.is.parts.back = IsBytes-back took.is.parts.front took.is.parts.back (subst IsBytes took.is.parts.joined text) in
     let whole = spell_code header.0.0 took.text header.0.1 instrs.0 (subst IsBytes took.is.parts.back_is back) took.is spelt in
@@ -157,33 +158,42 @@ unfolding code_at
 code_again c bytes is =
     let s = spelt_code c bytes is in
     let header : header_at bytes ≡ Ok (s.header, s.code) = ap header_at s.joined ∙ header_again s.header (s.word ++ s.header) s.code s.is_header in
-    let instrs : whole_of (instr_at (length bytes)) s.code ≡ Ok c.instrs = (instrs_agree (length bytes)).again c.instrs s.code s.instrs in
-    bind_at_ok (header_at bytes) (λ (h : List ℕ × List ℕ). whole_of (instr_at (length bytes)) h.1 >>= λ is. Ok (code_of h.0 is)) (s.header, s.code) header
-    ∙ bind_at_ok (whole_of (instr_at (length bytes)) s.code) (λ (is : List Instruction). Ok (code_of s.header is)) c.instrs instrs
+    let instrs : instrs_at (length bytes) (length s.code) s.code ≡ Ok c.instrs = whole_is (length bytes) s.code ∙ (instrs_agree (length bytes)).again c.instrs s.code s.instrs in
+    bind_at_ok (header_at bytes) (λ (h : List ℕ × List ℕ). instrs_at (length bytes) (length h.1) h.1 >>= λ is. Ok (code_of h.0 is)) (s.header, s.code) header
+    ∙ bind_at_ok (instrs_at (length bytes) (length s.code) s.code) (λ (is : List Instruction). Ok (code_of s.header is)) c.instrs instrs
     ∙ ap (λ (d : CodeVal). Ok d) s.same
 
--- ---- what is spelled is proper
+-- ---- what is spelled by bytes meets its type, and is proper
 
 behind_fits : (P Q : List ℕ → Type 0) (text : List ℕ) (parts : Then P Q text) → IsBytes text → IsBytes parts.back
 behind_fits P Q text parts fits = IsBytes-back parts.front parts.back (subst IsBytes parts.joined fits)
 
-pub code_proper : (c : CodeVal) (bytes : List ℕ) → IsBytes bytes → SpellsCode c bytes → IsCode c
-code_proper c bytes fits is =
+-- the bytes of the extra bytes and the instructions, which stand behind five words
+behind_words : {P Q R S T U : List ℕ → Type 0} (bytes : List ℕ) → IsBytes bytes → (is : Then P (Then Q (Then R (Then S (Then T U)))) bytes) → IsBytes is.back_is.back_is.back_is.back_is.back
+behind_words bytes fits is =
     let format = is.back_is in
     let max_op = format.back_is in
     let labels = max_op.back_is in
     let functions = labels.back_is in
+    behind_fits _ _ labels.back functions (behind_fits _ _ max_op.back labels (behind_fits _ _ format.back max_op (behind_fits _ _ is.back format (behind_fits _ _ bytes is fits))))
+
+pub code_meets_type : (c : CodeVal) (bytes : List ℕ) → IsBytes bytes → SpellsCode c bytes → CodeMeetsType c
+code_meets_type c bytes fits is =
+    let max_op = is.back_is.back_is in
+    let labels = max_op.back_is in
+    let functions = labels.back_is in
     let extra = functions.back_is in
-    let behind1 : IsBytes is.back = behind_fits _ _ bytes is fits in
-    let behind2 : IsBytes format.back = behind_fits _ _ is.back format behind1 in
-    let behind3 : IsBytes max_op.back = behind_fits _ _ format.back max_op behind2 in
-    let behind4 : IsBytes labels.back = behind_fits _ _ max_op.back labels behind3 in
-    let behind5 : IsBytes functions.back = behind_fits _ _ labels.back functions behind4 in
+    let behind : IsBytes functions.back = behind_words bytes fits is in
     record {
-      size = is.front_is.fits;
-      extra = subst IsBytes extra.front_is (IsBytes-front extra.front extra.back (subst IsBytes extra.joined behind5));
+      extra = subst IsBytes extra.front_is (IsBytes-front extra.front extra.back (subst IsBytes extra.joined behind));
       max_op = max_op.front_is.fits;
       labels = labels.front_is.fits;
       functions = functions.front_is.fits;
-      instrs = instrs_proper c.instrs extra.back (behind_fits _ _ functions.back extra behind5) extra.back_is;
+      instrs = instrs_meet_type c.instrs extra.back (behind_fits _ _ functions.back extra behind) extra.back_is;
     }
+
+pub code_proper : (c : CodeVal) (bytes : List ℕ) → IsBytes bytes → SpellsCode c bytes → IsProperCode c
+code_proper c bytes fits is =
+    let functions = is.back_is.back_is.back_is.back_is in
+    let extra = functions.back_is in
+    record { size = is.front_is.fits; instrs = instrs_proper c.instrs extra.back (behind_fits _ _ functions.back extra (behind_words bytes fits is)) extra.back_is }

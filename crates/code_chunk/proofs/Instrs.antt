@@ -6,15 +6,16 @@ use Rattle.bk_codec.proofs.Steps.{made_ok}
 use Rattle.bk_codec.proofs.Agreement.{Agrees, Takes, many_agree, IsBytes-back, IsBytes-tail}
 use Rattle.bk_codec.proofs.ToTheEnd.{AgreesOnAll, all_agree}
 use Rattle.compact_term.specs.Spelling.{Spells}
-use Rattle.compact_term.specs.Operand.{IsOperand}
+use Rattle.compact_term.specs.Operand.{MeetsType, IsProper}
 use Rattle.compact_term.specs.Reading.{operand_at}
 use Rattle.compact_term.proofs.Operands.{operand_agrees}
-use Rattle.compact_term.proofs.Proper.{operand_proper, many_proper}
+use Rattle.compact_term.proofs.Proper.{operand_meets_type, operand_proper, many_are}
 use Rattle.op_table.specs.Table.{arity_of}
 use Rattle.op_table.specs.Instruction.{Instruction}
 use Rattle.code_chunk.specs.Spelling.{SpellsInstr}
-use Rattle.code_chunk.specs.Code.{IsInstr}
-use Rattle.code_chunk.specs.Reading.{located, operand_in, instr_with, instr_at}
+use Rattle.code_chunk.specs.Code.{InstrMeetsType, IsProperInstr}
+use Rattle.code_chunk.specs.Reading.{located, operand_in, instr_with}
+use Rattle.code_chunk.proofs.Front.{instr_at}
 use Rattle.code_chunk.proofs.Shrinking.{located_ok, instr_shrinks}
 
 pub operand_in_agrees : (size : ℕ) → Agrees (operand_in size) Spells
@@ -61,15 +62,22 @@ instr_agrees size = record { takes = instr_takes size; again = instr_again size 
 pub instr_some : (i : Instruction) (text : List ℕ) → SpellsInstr i text → 0 < length text
 instr_some i text is = let lengths = ap length (instr_joined i text is) in omega arith
 
-instr_proper : (i : Instruction) (bytes : List ℕ) → IsBytes bytes → SpellsInstr i bytes → IsInstr i
-instr_proper i bytes fits is =
-    let back : IsBytes is.1.back = IsBytes-back is.1.front is.1.back (subst IsBytes is.1.joined fits) in
-    record { arity = is.0; operands = many_proper Spells IsOperand operand_proper i.operands is.1.back back is.1.back_is }
+instr_back : (i : Instruction) (bytes : List ℕ) → IsBytes bytes → (is : SpellsInstr i bytes) → IsBytes is.1.back
+instr_back i bytes fits is = IsBytes-back is.1.front is.1.back (subst IsBytes is.1.joined fits)
+
+instr_meets_type : (i : Instruction) (bytes : List ℕ) → IsBytes bytes → SpellsInstr i bytes → InstrMeetsType i
+instr_meets_type i bytes fits is = record { arity = is.0; operands = many_are Spells MeetsType operand_meets_type i.operands is.1.back (instr_back i bytes fits is) is.1.back_is }
+
+instr_proper : (i : Instruction) (bytes : List ℕ) → IsBytes bytes → SpellsInstr i bytes → IsProperInstr i
+instr_proper i bytes fits is = many_are Spells IsProper (λ o text _ spelt. operand_proper o text spelt) i.operands is.1.back (instr_back i bytes fits is) is.1.back_is
 
 -- ---- all of them
 
 pub instrs_agree : (size : ℕ) → AgreesOnAll (instr_at size) SpellsInstr
 instrs_agree size = all_agree (instr_agrees size) (instr_shrinks size) instr_some
 
-pub instrs_proper : (is : List Instruction) (bytes : List ℕ) → IsBytes bytes → SpellsMany SpellsInstr is bytes → All IsInstr is
-instrs_proper is bytes fits spelt = many_proper SpellsInstr IsInstr instr_proper is bytes fits spelt
+pub instrs_meet_type : (is : List Instruction) (bytes : List ℕ) → IsBytes bytes → SpellsMany SpellsInstr is bytes → All InstrMeetsType is
+instrs_meet_type is bytes fits spelt = many_are SpellsInstr InstrMeetsType instr_meets_type is bytes fits spelt
+
+pub instrs_proper : (is : List Instruction) (bytes : List ℕ) → IsBytes bytes → SpellsMany SpellsInstr is bytes → All IsProperInstr is
+instrs_proper is bytes fits spelt = many_are SpellsInstr IsProperInstr instr_proper is bytes fits spelt

@@ -1,5 +1,5 @@
 -- An instruction that is read takes at least a byte.
-use Rattle.std.proofs.Common.{◌≡◌, ℕ, ◌-◌, ◌<◌, ◌≤◌, Option, Some, None, List, [], ◌∷◌, length, Bool, false, IsTrue, refl, Result, Ok, Err, ap, arith}
+use Rattle.std.proofs.Common.{◌≡◌, ℕ, ◌-◌, ◌≤◌, Option, Some, None, [], ◌∷◌, length, Result, Ok, Err, ap, arith}
 use Rattle.bk_codec.proofs.Steps.{ok_is}
 use Rattle.bk_codec.proofs.Keeps.{Keeps, keeps_made, keeps_many}
 use Rattle.bk_codec.proofs.ToTheEnd.{Shrinks}
@@ -8,7 +8,8 @@ use Rattle.compact_term.specs.Reading.{operand_at}
 use Rattle.compact_term.proofs.Keeping.{operand_keeps}
 use Rattle.op_table.specs.Table.{arity_of}
 use Rattle.code_chunk.specs.declared.refusal.CodeRefusal.{CodeRefusal}
-use Rattle.code_chunk.specs.Reading.{located, operand_in, instr_with, instr_at}
+use Rattle.code_chunk.specs.Reading.{located, operand_in, instr_with}
+use Rattle.code_chunk.proofs.Front.{instr_at}
 
 pub located_ok : {X : Type 0} (at : ℕ) (r : Result X OperandRefusal) (x : X) → located at r ≡ Ok x → r ≡ Ok x
 located_ok at (Ok y) x e = let same : y ≡ x = ok_is {E = CodeRefusal} y x e in ap (λ (z : _). Ok z) same
@@ -25,8 +26,3 @@ pub instr_shrinks : (size : ℕ) → Shrinks (instr_at size)
 unfolding instr_at
 instr_shrinks size [] i rest e = absurd cc
 instr_shrinks size (op ∷ bytes) i rest e = let keeps : length rest ≤ length bytes = instr_with_keeps size op (arity_of op) bytes i rest e in omega arith
-
--- where a cursor isn't empty, bytes are left
-pub some_left : (empty : Bool) (bytes : List ℕ) → ((IsTrue empty → bytes ≡ []) × (bytes ≡ [] → IsTrue empty)) → empty ≡ false → 0 < length bytes
-some_left empty [] says not_empty = let is = says.1 refl in absurd cc
-some_left empty (b ∷ bytes) says not_empty = omega arith

@@ -20,8 +20,9 @@ use Rattle.code_chunk.specs.declared.code.CodeVal.{CodeVal}
 use Rattle.code_chunk.specs.declared.refusal.CodeRefusal.{CodeRefusal}
 use Rattle.code_chunk.specs.declared.refusal.CodeRefusal.TheVariants as refusals
 use Rattle.code_chunk.specs.Spelling.{SpellsInstr}
-use Rattle.code_chunk.specs.Reading.{located, operand_in, instr_with, instr_at, sized_at, of_format, header_at, code_of, code_at}
+use Rattle.code_chunk.specs.Reading.{located, operand_in, instr_with, instrs_at, sized_at, of_format, header_at, code_of, code_at}
 use Rattle.code_chunk.specs.Stop.{IsStop, HasHeader, instrs_from, IsWrong}
+use Rattle.code_chunk.proofs.Front.{instr_at, whole_is}
 use Rattle.code_chunk.proofs.Headers.{of_format_ok}
 use Rattle.code_chunk.proofs.Instrs.{operand_in_agrees, instr_agrees}
 
@@ -50,7 +51,7 @@ has_header bytes header size stated number least whole is format =
       format = sym (big_from-take 0 4 size (drop 4 bytes) (omega arith)) ∙ ap (big_number 4) is ∙ format;
     }
 
-header_ok : (bytes header rest : List ℕ) → header_at bytes ≡ Ok (header, rest) → HasHeader bytes × (rest ≡ drop (instrs_from bytes) bytes)
+pub header_ok : (bytes header rest : List ℕ) → header_at bytes ≡ Ok (header, rest) → HasHeader bytes × (rest ≡ drop (instrs_from bytes) bytes)
 unfolding header_at
 header_ok bytes header rest e =
     let size = bind_ok (number_at refusals.Header 4 bytes) (λ (size : ℕ × List ℕ). sized_at size.0 size.1 >>= λ h. of_format h.0 h.1) (header, rest) e in
@@ -62,18 +63,20 @@ header_ok bytes header rest e =
       sym format.2 ∙ sym sized.3 ∙ drop-drop size.0.0 4 bytes ∙ ap (λ (n : ℕ). drop (4 + n) bytes) (sym number.1),
     )
 
-header_read : (bytes : List ℕ) → HasHeader bytes → (e : CodeRefusal) → header_at bytes ≡ Err e → ⊥
+-- where a sub-header stands, it is read
+pub header_found : (bytes : List ℕ) → HasHeader bytes → header_at bytes ≡ Ok (take (big_number 4 bytes) (drop 4 bytes), drop (instrs_from bytes) bytes)
 unfolding header_at
-header_read bytes has e refused =
+header_found bytes has =
     let stated = has.stated in
     let least = has.least in
     let whole = has.whole in
     let size = big_number 4 bytes in
     let enough : size ≤ length (drop 4 bytes) = omega (arith, length-drop 4 bytes) in
     let format : big_number 4 (take size (drop 4 bytes)) ≡ 0 = big_from-take 0 4 size (drop 4 bytes) (omega arith) ∙ has.format in
-    let read : header_at bytes ≡ Ok (take size (drop 4 bytes), drop size (drop 4 bytes)) =
-    rw (le-ltb _ _ has.stated, le-ltb _ _ has.least, le-ltb _ _ enough, eq-eqb _ _ format) refl in
-    cc
+    rw (le-ltb _ _ has.stated, le-ltb _ _ has.least, le-ltb _ _ enough, eq-eqb _ _ format) (ap (λ (rest : List ℕ). Ok (take size (drop 4 bytes), rest)) (drop-drop size 4 bytes))
+
+header_read : (bytes : List ℕ) → HasHeader bytes → (e : CodeRefusal) → header_at bytes ≡ Err e → ⊥
+header_read bytes has e refused = let read = header_found bytes has in cc
 
 guard_err : {A : Type 0} (b : Bool) (d e : CodeRefusal) (y : A) → cond b (Err d) (Ok y) ≡ Err e → e ≡ d
 guard_err {A} true d e y h = sym (err_is {A = A} d e h)
@@ -93,7 +96,7 @@ of_format_only header bytes e h =
       | inr other ↦ sym (err_is {A = List ℕ × List ℕ} refusals.Header e (rw (ne_eqb _ _ other) at h))
     ]
 
-header_only : (bytes : List ℕ) (e : CodeRefusal) → header_at bytes ≡ Err e → e ≡ refusals.Header
+pub header_only : (bytes : List ℕ) (e : CodeRefusal) → header_at bytes ≡ Err e → e ≡ refusals.Header
 unfolding header_at
 header_only bytes e refused =
     elim (bind_err (number_at refusals.Header 4 bytes) (λ (size : ℕ × List ℕ). sized_at size.0 size.1 >>= λ h. of_format h.0 h.1) e refused) [
@@ -180,12 +183,12 @@ wrong_instrs payload rest e header is fits refused =
 pub code_wrong : (payload : List ℕ) (e : CodeRefusal) → IsBytes payload → code_at payload ≡ Err e → IsWrong e payload
 unfolding code_at
 code_wrong payload e fits refused =
-    elim (bind_err (header_at payload) (λ (header : List ℕ × List ℕ). whole_of (instr_at (length payload)) header.1 >>= λ instrs. Ok (code_of header.0 instrs)) e refused) [
+    elim (bind_err (header_at payload) (λ (header : List ℕ × List ℕ). instrs_at (length payload) (length header.1) header.1 >>= λ instrs. Ok (code_of header.0 instrs)) e refused) [
       | inl no_header ↦ subst (λ (d : CodeRefusal). IsWrong d payload) (sym (header_only payload e no_header)) (λ has. header_read payload has e no_header)
       | inr header ↦
           let ok = header_ok payload header.0.0 header.0.1 header.1 in
-          elim (bind_err (whole_of (instr_at (length payload)) header.0.1) (λ (instrs : List Instruction). let c : Result CodeVal CodeRefusal = Ok (code_of header.0.0 instrs) in c) e header.2) [
-            | inl instrs ↦ wrong_instrs payload header.0.1 e ok.0 ok.1 (subst IsBytes (sym ok.1) (IsBytes-drop (instrs_from payload) payload fits)) instrs
+          elim (bind_err (instrs_at (length payload) (length header.0.1) header.0.1) (λ (instrs : List Instruction). let c : Result CodeVal CodeRefusal = Ok (code_of header.0.0 instrs) in c) e header.2) [
+            | inl instrs ↦ wrong_instrs payload header.0.1 e ok.0 ok.1 (subst IsBytes (sym ok.1) (IsBytes-drop (instrs_from payload) payload fits)) (sym (whole_is (length payload) header.0.1) ∙ instrs)
             | inr none ↦ let never = none.2 in absurd cc
           ]
     ]

@@ -1,7 +1,7 @@
 -- How the payload of a code chunk is read from the left, and which refusal comes first.
-use Rattle.std.specs.Prelude.{ℕ, suc, ◌-◌, Option, Some, None, List, [], ◌∷◌, length, drop, ◌==◌, nat_lt, if◌then◌else◌, Result, Ok, Err}
+use Rattle.std.specs.Prelude.{ℕ, zero, suc, ◌-◌, Option, Some, None, List, [], ◌∷◌, length, drop, ◌==◌, nat_lt, if◌then◌else◌, Result, Ok, Err}
 use Rattle.byteorder.specs.Endian.{big_number}
-use Rattle.bk_codec.specs.Reading.{◌>>=◌, giving, made_of, bytes_at, number_at, many_at, whole_of}
+use Rattle.bk_codec.specs.Reading.{◌>>=◌, refused_as, giving, made_of, bytes_at, number_at, many_at}
 use Rattle.compact_term.specs.declared.operand.Operand.{Operand}
 use Rattle.compact_term.specs.declared.refusal.OperandRefusal.{OperandRefusal}
 use Rattle.compact_term.specs.Reading.{operand_at}
@@ -13,8 +13,7 @@ use Rattle.code_chunk.specs.declared.refusal.CodeRefusal.TheVariants as refusals
 
 -- a refused operand, with its offset
 abbrev pub located : {X : Type 0} → ℕ → Result X OperandRefusal → Result X CodeRefusal
-located at (Ok x) = Ok x
-located at (Err why) = Err (refusals.Operand at why)
+located at read = refused_as (refusals.Operand at) read
 
 -- an operand in a payload of this size
 abbrev pub operand_in : ℕ → List ℕ → Result (Operand × List ℕ) CodeRefusal
@@ -25,10 +24,11 @@ abbrev pub instr_with : ℕ → ℕ → Option ℕ → List ℕ → Result (Inst
 instr_with size op (Some arity) bytes = made_of (λ operands. record { op = op; operands = operands }) (many_at (operand_in size) arity bytes)
 instr_with size op None bytes = Err (refusals.Opcode (size - suc (length bytes)) op)
 
--- an instruction in a payload of this size; there is none without a byte
-unfoldable pub instr_at : ℕ → List ℕ → Result (Instruction × List ℕ) CodeRefusal
-instr_at size [] = Err refusals.Header
-instr_at size (op ∷ bytes) = instr_with size op (arity_of op) bytes
+-- the instructions up to the end of a payload of this size, of which there are at most n
+unfoldable pub instrs_at : ℕ → ℕ → List ℕ → Result (List Instruction) CodeRefusal
+instrs_at size n [] = Ok []
+instrs_at size zero (op ∷ bytes) = Ok []
+instrs_at size (suc n) (op ∷ bytes) = instr_with size op (arity_of op) bytes >>= λ i. (instrs_at size n i.1 >>= λ others. Ok (i.0 ∷ others))
 
 -- a sub-header of this size
 abbrev pub sized_at : ℕ → List ℕ → Result (List ℕ × List ℕ) CodeRefusal
@@ -58,5 +58,5 @@ code_of header instrs = record {
 unfoldable pub code_at : List ℕ → Result CodeVal CodeRefusal
 code_at bytes = do
   header ← header_at bytes
-  instrs ← whole_of (instr_at (length bytes)) header.1
+  instrs ← instrs_at (length bytes) (length header.1) header.1
   Ok (code_of header.0 instrs)

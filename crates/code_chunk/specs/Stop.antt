@@ -67,9 +67,9 @@ pub record IsNoOperand (at : ℕ) (why : OperandRefusal) (payload : List ℕ) : 
   pub refused : operand_at after ≡ Err why
   pub place : at ≡ instrs_from payload + stop + 1 + length text
 
--- this is wrong with the payload; want of memory says nothing of it, and is never an operand's
+-- this is wrong with the payload; want of memory is nothing that is wrong with it
 abbrev pub IsWrong : CodeRefusal → List ℕ → Type 0
 IsWrong refusals.Header payload = ¬ HasHeader payload
 IsWrong (refusals.Opcode at op) payload = IsNoOpcode at op payload
 IsWrong (refusals.Operand at why) payload = IsNoOperand at why payload × (why ≢ operand_refusals.NoMemory)
-IsWrong refusals.NoMemory payload = Unit {0}
+IsWrong refusals.NoMemory payload = ⊥

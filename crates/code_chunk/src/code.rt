@@ -4,7 +4,7 @@ ghost use Rattle.std.specs.Prelude.{◌≡◌, ◌≤◌, ◌⊎◌, length, IfO
 ghost use Rattle.bk_codec.specs.Reading.{Gives, GivesAll};
 ghost use Rattle.code_chunk.specs.declared.code.CodeVal.{CodeVal};
 ghost use Rattle.code_chunk.specs.Spelling.{SpellsCode};
-ghost use Rattle.code_chunk.specs.Code.{IsCode};
+ghost use Rattle.code_chunk.specs.Code.{CodeMeetsType, IsProperCode};
 ghost use Rattle.code_chunk.specs.Stop.{IsWrong};
 ghost use Rattle.bk_base.specs.Place.{end_of};
 ghost use Rattle.code_chunk.specs.Reading.{header_at, code_at};
@@ -12,6 +12,7 @@ ghost use Rattle.code_chunk.specs.Reading.{header_at, code_at};
 use crate::instructions::{InstrList, instructions};
 use crate::refusal::CodeRefusal;
 use bk_base::{ByteList, Cursor};
+use bk_codec::word;
 use byteorder::{BigEndian, ByteOrder};
 use std::alloc::Global;
 
@@ -40,7 +41,7 @@ fn sub_header<'a>(cur: &mut Cursor<'a>) -> Result<&'a [u8], CodeRefusal>
     ensures least { IfOk result (λ h. 16 ≤ length h.now) }
     ensures end { end_of cur.new ≡ end_of cur.old }
 {
-    let size = cur.be32().ok_or(CodeRefusal::Header)?;
+    let size = word(cur, CodeRefusal::Header)?;
     if size < LEAST_HEADER {
         return Err(CodeRefusal::Header);
     }
@@ -75,13 +76,14 @@ fn whole_code(alloc: Global, s: &[u8]) -> Result<CodeVal, CodeRefusal>
 pub fn read_code(alloc: Global, s: &[u8]) -> Result<CodeVal, CodeRefusal>
     // What was read is spelled by the payload.
     ensures found { IfOk result (λ c. SpellsCode c s.now) }
-    ensures proper { IfOk result IsCode }
+    ensures proper { IfOk result IsProperCode }
+    ensures meets_type { IfOk result CodeMeetsType }
 
     // What the payload spells is read, unless memory runs out.
     ensures only { (c : CodeVal) → SpellsCode c s.now → (result ≡ Ok c) ⊎ (result ≡ Err CodeRefusal.NoMemory) }
 
     // What is wrong with the payload, and what it reads from the left.
-    ensures wrong { IfErr result (λ e. IsWrong e s.now) }
+    ensures wrong { IfErr result (λ e. (e ≡ CodeRefusal.NoMemory) ⊎ IsWrong e s.now) }
     ensures read { GivesAll CodeRefusal.NoMemory (λ c. c) result (code_at s.now) }
 {
     whole_code(alloc, s)

@@ -1,10 +1,21 @@
 //! What holds of the spellings of instructions and code.
 
-ghost use Rattle.std.specs.Prelude.{◌≡◌, ℕ, ◌++◌, List};
+ghost use Rattle.std.specs.Prelude.{◌≡◌, ◌↔◌, ℕ, ◌++◌, List, Err};
+ghost use Rattle.bk_codec.specs.Spelling.{IsBytes};
+ghost use Rattle.bk_codec.specs.Exact.{IsExact};
 ghost use Rattle.op_table.specs.Instruction.{Instruction};
 ghost use Rattle.code_chunk.specs.declared.code.CodeVal.{CodeVal};
+ghost use Rattle.code_chunk.specs.declared.refusal.CodeRefusal.{CodeRefusal};
 ghost use Rattle.code_chunk.specs.Spelling.{SpellsInstr, SpellsCode};
-ghost use Rattle.code_chunk.specs.Stop.{IsStop};
+ghost use Rattle.code_chunk.specs.Reading.{code_at};
+ghost use Rattle.code_chunk.specs.Stop.{IsStop, IsWrong};
+
+/// The reading from left to right accepts exactly the payloads that spell code, each with its value,
+/// and refuses all others exactly for what is wrong with them.
+pub fn reading_is_exact()
+    ensures exact { IsExact code_at SpellsCode }
+    ensures refused { (payload : List ℕ) (e : CodeRefusal) → IsBytes payload → (code_at payload ≡ Err e) ↔ IsWrong e payload }
+{}
 
 /// No spelling of an instruction begins another one, and each is of one instruction.
 pub fn one_instr_form()

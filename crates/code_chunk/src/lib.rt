@@ -8,7 +8,7 @@ mod refusal;
 
 pub use code::{CodeVal, read_code};
 pub use instructions::InstrList;
-pub use laws::{one_code, one_instr_form, one_stop};
+pub use laws::{one_code, one_instr_form, one_stop, reading_is_exact};
 pub use refusal::CodeRefusal;
 
 #[cfg(test)]

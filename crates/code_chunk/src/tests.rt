@@ -6,7 +6,7 @@ use std::test::Fail;
 const HEADER: [u8; 20] = [0, 0, 0, 16, 0, 0, 0, 0, 0, 0, 0, 3, 0, 0, 0, 1, 0, 0, 0, 0];
 
 // What follows the header, and how it is refused.
-const REFUSED: [(&[u8], CodeRefusal); 8] = [
+const REFUSED: [(&[u8], CodeRefusal); 9] = [
     (&[0xb7], CodeRefusal::Opcode { at: 20, op: 183 }),
     (&[0x00], CodeRefusal::Opcode { at: 20, op: 0 }),
     (
@@ -51,6 +51,17 @@ const REFUSED: [(&[u8], CodeRefusal); 8] = [
             why: OperandRefusal::Cut,
         },
     ),
+    // an allocation list that states 2^64 - 1 pairs and has one
+    (
+        &[
+            0x0c, 0x37, 0xf8, 0x00, 0x00, 0xff, 0xff, 0xff, 0xff, 0xff, 0xff, 0xff, 0xff, 0x00,
+            0x50,
+        ],
+        CodeRefusal::Operand {
+            at: 21,
+            why: OperandRefusal::Cut,
+        },
+    ),
 ];
 
 #[test]
@@ -72,9 +83,47 @@ fn code_is_read(rt: HostRuntime) -> Result<(), Fail> {
     );
     assert_eq!(rt; code.instrs.as_slice()[1].op(), 3);
     assert!(rt; InstrList::new(rt.alloc()).is_empty());
+    reading_is_exact();
     one_instr_form();
     one_code();
     one_stop();
+    Ok(())
+}
+
+// Puts the operands u0 to u299, each in two bytes and behind the same front.
+fn put_numbers(out: &mut Vec<u8>, front: &[u8]) -> Result<(), Fail> {
+    for n in 0..300u16 {
+        let first = if n < 256 { 0x08 } else { 0x28 };
+        out.extend_from_slice(front)?;
+        out.extend_from_slice(&[first, (n % 256) as u8])?;
+    }
+    Ok(())
+}
+
+#[test]
+fn long_code_is_read_whole(rt: HostRuntime) -> Result<(), Fail> {
+    let mut payload = Vec::new(rt.alloc());
+    payload.extend_from_slice(&HEADER)?;
+    // 300 labels, and a select_val with a list of 300 members
+    put_numbers(&mut payload, &[1])?;
+    payload.extend_from_slice(&[0x3b, 0x03, 0x15, 0x17, 0x28, 0x2c])?;
+    put_numbers(&mut payload, &[])?;
+    let code = read_code(rt.alloc(), payload.as_slice())?;
+    assert_eq!(rt; code.instrs.len(), 301);
+    let (select, labels) = code.instrs.as_slice().split_last().ok_or("no code")?;
+    for (i, label) in labels.iter().enumerate() {
+        assert_eq!(rt; label.op(), 1);
+        assert!(rt;
+            matches!(label.operands().as_slice(), [Operand::One(Plain::U(n))] if *n == i as u64)
+        );
+    }
+    let Some(Operand::List(members)) = select.operands().get(2) else {
+        return Err("no list".into());
+    };
+    assert_eq!(rt; members.len(), 300);
+    for (i, member) in members.as_slice().iter().enumerate() {
+        assert!(rt; matches!(member, Plain::U(n) if *n == i as u64));
+    }
     Ok(())
 }
 

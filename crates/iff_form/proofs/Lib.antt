@@ -3,3 +3,4 @@ pub mod Walk
 pub mod Whole
 pub mod Loop
 pub mod Refusals
+pub mod Payloads

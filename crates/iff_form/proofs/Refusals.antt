@@ -12,6 +12,8 @@ use Rattle.std.proofs.lemmas.Map.Keys.{IsDistinct-push}
 use Rattle.std.proofs.lemmas.Slice.Eq.{bytes_eq-Decides}
 use Rattle.bk_codec.specs.Reading.{GivesAll, giving, bytes_at, number_at}
 use Rattle.bk_codec.specs.Spelling.{IsBytes, SpellsMany}
+use Rattle.bk_codec.specs.Exact.{IsExact}
+use Rattle.bk_codec.proofs.Exact.{exact_from}
 use Rattle.bk_codec.proofs.Steps.{bind_ok, bind_err, bind_at_ok, bind_at_err, chosen, err_is, ok_is}
 use Rattle.bk_codec.proofs.Agreement.{Takes, IsBytes-drop}
 use Rattle.bk_codec.proofs.Lengths.{bytes_at-refused, number_at-refused}
@@ -321,11 +323,14 @@ refused_call bytes (Ok cs) fits gives = tt
 refused_call bytes (Err e) fits (inl none) = inl none
 refused_call bytes (Err e) fits (inr read) = inr (refuses_from bytes e fits read)
 
-pub accepts : (bytes : List ℕ) (chunks : List PlainChunk) → IsBytes bytes → form_of bytes ≡ Ok chunks → IsForm chunks bytes
+accepts : (bytes : List ℕ) (chunks : List PlainChunk) → IsBytes bytes → form_of bytes ≡ Ok chunks → IsForm chunks bytes
 unfolding form_of
 accepts bytes chunks fits h =
     let size = bind_ok (size_of bytes) (λ _. chunks_from (length bytes) (length bytes) [] (drop 12 bytes)) chunks h in
     (form_takes bytes size.0 chunks fits size.1 size.2).form
+
+pub form_is_exact : IsExact form_of IsForm
+form_is_exact = exact_from accepts (λ bytes chunks. form_again chunks bytes)
 
 -- ---- one form
 

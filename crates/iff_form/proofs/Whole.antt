@@ -126,8 +126,3 @@ pub only_form : (bytes : List ℕ) (result : Result (List PlainChunk) FormRefusa
 only_form bytes (Ok cs) gives chunks is = inl (sym (sym (form_again chunks bytes is) ∙ gives))
 only_form bytes (Err e) (inl none) chunks is = inr (ap (λ (x : FormRefusal). Err x) none)
 only_form bytes (Err e) (inr read) chunks is = absurd (not_both (form_of bytes) chunks e (form_again chunks bytes is) read)
-
--- the reading of the parts
-pub reads_form : (bytes : List ℕ) (size : ℕ) (chunks : List PlainChunk) → size_of bytes ≡ Ok size → chunks_from (length bytes) (length bytes) [] (drop 12 bytes) ≡ Ok chunks → form_of bytes ≡ Ok chunks
-unfolding form_of
-reads_form bytes size chunks head walk = bind_at_ok (size_of bytes) (λ _. chunks_from (length bytes) (length bytes) [] (drop 12 bytes)) size head ∙ walk

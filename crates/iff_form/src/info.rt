@@ -8,19 +8,16 @@ use crate::chunk::Chunk;
 use crate::form::Form;
 use crate::id_text::IdText;
 use bk_base::{Bytes, NoMemory};
-use itoa::Buffer;
+use bk_text::put_marked;
 use std::alloc::Global;
 
 // Puts the line of one chunk at the end: its id, and the payload's length in bytes.
 fn put_chunk_line(out: &mut Bytes, chunk: &Chunk<'_>) -> Result<(), NoMemory>
     ensures { OnOk result (out.new.items ≡ out.old.items ++ chunk_line (plain chunk.now)) }
 {
-    let mut length = Buffer::new();
     out.extend(IdText::new(chunk.id).as_bytes())?;
-    out.extend(b" ")?;
-    out.extend(length.format(chunk.payload.len()).as_bytes())?;
-    out.extend(b"\n")?;
-    Ok(())
+    put_marked(out, b" ", chunk.payload.len())?;
+    out.push(b'\n')
 }
 
 /// The line `form S` with the form's size word, and then a line for each chunk in the order of the
@@ -29,10 +26,8 @@ pub fn info_text(alloc: Global, form: &Form<'_>) -> Result<Bytes, NoMemory>
     ensures { IfOk result (λ text. text.items ≡ info_of form.now) }
 {
     let mut out = Bytes::new(alloc);
-    let mut size = Buffer::new();
-    out.extend(b"form ")?;
-    out.extend(size.format(form.size()).as_bytes())?;
-    out.extend(b"\n")?;
+    put_marked(&mut out, b"form ", form.size())?;
+    out.push(b'\n')?;
     for chunk in form.chunks() {
         put_chunk_line(&mut out, chunk)?;
     }

@@ -15,7 +15,7 @@ pub use form::Form;
 pub use id::Id;
 pub use id_text::IdText;
 pub use info::info_text;
-pub use laws::{one_form, reading_is_exact};
+pub use laws::{one_form, payloads_are_bytes, reading_is_exact};
 pub use reading::read_form;
 pub use refusal::FormRefusal;
 

@@ -4,7 +4,7 @@ ghost use Rattle.std.specs.Prelude.{◌≡◌};
 ghost use Rattle.iff_form.specs.declared.refusal.FormRefusal.TheVariants as refusals;
 
 use crate::id::Id;
-use std::alloc::{AllocError, AllocFailed};
+use std::alloc::AllocFailed;
 use thiserror::Error;
 
 /// Why bytes are no form, in the order in which the reasons are looked at. Offsets are in bytes from
@@ -29,14 +29,6 @@ pub enum FormRefusal {
     /// Memory ran out.
     #[error("out of memory")]
     NoMemory,
-}
-
-impl From<AllocError> for FormRefusal {
-    ghost from_gives = { λ _ e. e ≡ refusals.NoMemory };
-
-    fn from(_e: AllocError) -> FormRefusal {
-        FormRefusal::NoMemory
-    }
 }
 
 impl<T: Drop> From<AllocFailed<T>> for FormRefusal {

@@ -1,26 +1,12 @@
 -- Bytes in rows of 32.
-use Rattle.std.proofs.Common.{◌≡◌, ℕ, zero, suc, ◌+◌, ◌*◌, ◌<◌, ◌≤◌, min, List, [], ◌∷◌, ◌++◌, length, take, drop, map, refl, sym, ap, subst, ◌∙◌, arith, append_assoc, append-nil, length-append}
+use Rattle.std.proofs.Common.{◌≡◌, ℕ, zero, suc, ◌+◌, ◌*◌, ◌<◌, ◌≤◌, min, List, [], ◌∷◌, ◌++◌, length, take, drop, map, refl, ap, subst, ◌∙◌, arith, append-nil, length-append}
 use Rattle.std.proofs.Math.Seq.{drop-append-add}
 use Rattle.std.proofs.lemmas.List.{take_all, take_at}
 use Rattle.std.specs.Prelude.{codes}
 use Rattle.std.specs.List.{range_with_len}
 use Rattle.std.specs.Int.{div_ceil}
-use Rattle.hex.specs.Hex.{encode_lower, encode_with, lower_digits}
+use Rattle.hex.specs.Hex.{encode_lower}
 use Rattle.listing_out.specs.Lines.{payload_line, payload_lines}
-
-encode_with-append : (t a b : List ℕ) → encode_with t (a ++ b) ≡ encode_with t a ++ encode_with t b
-unfolding encode_with
-encode_with-append t [] b = refl
-encode_with-append t (x ∷ a) b = ap (λ digits. encode_with t (x ∷ []) ++ digits) (encode_with-append t a b)
-
--- the digits of no bytes
-pub digits-nil : encode_lower [] ≡ []
-unfolding encode_with
-digits-nil = refl
-
--- the digits of a row, and then those of the others
-pub digits-append : (a b : List ℕ) → encode_lower (a ++ b) ≡ encode_lower a ++ encode_lower b
-digits-append a b = encode_with-append lower_digits a b
 
 -- the same items, counted from elsewhere
 map-shift : {X : Type 0} (f g : ℕ → X) (a b n : ℕ) → ((j : ℕ) → f (a + j) ≡ g (b + j)) → map f (range_with_len a n) ≡ map g (range_with_len b n)
@@ -76,8 +62,3 @@ lines-first all row rest parts size some =
     let row_size : length row ≡ min 32 (length (row ++ rest)) = subst (λ (xs : List ℕ). length row ≡ min 32 (length xs)) parts size in
     let row_some : 0 < length (row ++ rest) = subst (λ (xs : List ℕ). 0 < length xs) parts some in
     ap payload_lines parts ∙ lines-joined row rest row_size row_some
-
--- the first of what was to be put is put, and the others are left
-pub first_put : (out new first others all whole : List ℕ) → new ≡ out ++ first → all ≡ first ++ others → out ++ all ≡ whole → new ++ others ≡ whole
-first_put out new first others all whole put parts before =
-    ap (λ (t : List ℕ). t ++ others) put ∙ append_assoc out first others ∙ ap (λ (t : List ℕ). out ++ t) (sym parts) ∙ before

@@ -4,15 +4,13 @@ ghost use Rattle.std.specs.Prelude.{◌≡◌, ◌∷◌, ◌++◌, map, OnOk};
 ghost use Rattle.op_table.specs.Table.{row_with};
 ghost use Rattle.listing_out.specs.Lines.{name_of, extra_text, code_line, instruction_line, text_of};
 
-use crate::number::{put_hex, put_number};
 use crate::operand::put_operand;
 use bk_base::{Bytes, NoMemory};
+use bk_text::{put_hex, put_marked};
 use code_chunk::CodeVal;
 use op_table::{Instr, op_row};
 
 /// Appends the lines of code to `out`: the line `code H L F E`, and one for each instruction, in order.
-///
-/// Where memory is wanting, a front of them may have been appended.
 pub(crate) fn put_code(out: &mut Bytes, code: &CodeVal) -> Result<(), NoMemory>
     ensures { OnOk result (out.new.items ≡ out.old.items ++ text_of (code_line code.now ∷ map instruction_line code.now.instrs)) }
 {
@@ -28,9 +26,9 @@ pub(crate) fn put_code(out: &mut Bytes, code: &CodeVal) -> Result<(), NoMemory>
 fn put_header(out: &mut Bytes, code: &CodeVal) -> Result<(), NoMemory>
     ensures { OnOk result (out.new.items ≡ out.old.items ++ code_line code.now) }
 {
-    put_number(out, b"code ", code.max_op)?;
-    put_number(out, b" ", code.labels)?;
-    put_number(out, b" ", code.functions)?;
+    put_marked(out, b"code ", code.max_op)?;
+    put_marked(out, b" ", code.labels)?;
+    put_marked(out, b" ", code.functions)?;
     out.push(b' ')?;
     put_extra(out, code.extra.as_slice())
 }

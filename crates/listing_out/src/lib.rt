@@ -3,7 +3,6 @@
 
 mod code;
 mod file;
-mod number;
 mod operand;
 mod payload;
 

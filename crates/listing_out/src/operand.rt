@@ -4,13 +4,11 @@ ghost use Rattle.std.specs.Prelude.{◌≡◌, ◌++◌, codes, OnOk};
 ghost use Rattle.std.specs.List.{join_by};
 ghost use Rattle.listing_out.specs.Operand.{register_text, plain_text, pair_text, operand_text};
 
-use crate::number::{put_hex, put_number};
 use bk_base::{Bytes, NoMemory};
+use bk_text::{put_hex, put_marked, put_number};
 use compact_term::{Operand, Plain, Reg};
 
 /// Appends the text of an operand to `out`, its numbers in decimal.
-///
-/// Where memory is wanting, a front of it may have been appended.
 pub(crate) fn put_operand(out: &mut Bytes, operand: &Operand) -> Result<(), NoMemory>
     ensures { OnOk result (out.new.items ≡ out.old.items ++ operand_text operand.now) }
 {
@@ -33,22 +31,22 @@ fn put_plain(out: &mut Bytes, plain: &Plain) -> Result<(), NoMemory>
     ensures { OnOk result (out.new.items ≡ out.old.items ++ plain_text plain.now) }
 {
     match plain {
-        Plain::U(n) => put_number(out, b"u", *n),
-        Plain::I(n) => put_number(out, b"i", n.value()),
+        Plain::U(n) => put_marked(out, b"u", *n),
+        Plain::I(n) => put_marked(out, b"i", n.value()),
         Plain::Wide(bytes) => {
             out.push(b'w')?;
             put_hex(out, bytes.as_slice())
         }
-        Plain::A(n) => put_number(out, b"a", *n),
-        Plain::X(n) => put_number(out, b"x", *n),
-        Plain::Y(n) => put_number(out, b"y", *n),
-        Plain::F(n) => put_number(out, b"f", *n),
-        Plain::H(n) => put_number(out, b"h", *n),
-        Plain::Fr(n) => put_number(out, b"fr", *n),
-        Plain::Lit(n) => put_number(out, b"l", *n),
+        Plain::A(n) => put_marked(out, b"a", *n),
+        Plain::X(n) => put_marked(out, b"x", *n),
+        Plain::Y(n) => put_marked(out, b"y", *n),
+        Plain::F(n) => put_marked(out, b"f", *n),
+        Plain::H(n) => put_marked(out, b"h", *n),
+        Plain::Fr(n) => put_marked(out, b"fr", *n),
+        Plain::Lit(n) => put_marked(out, b"l", *n),
         Plain::Typed(register, n) => {
             put_register(out, *register)?;
-            put_number(out, b"/", *n)
+            put_marked(out, b"/", *n)
         }
     }
 }
@@ -57,8 +55,8 @@ fn put_register(out: &mut Bytes, register: Reg) -> Result<(), NoMemory>
     ensures { OnOk result (out.new.items ≡ out.old.items ++ register_text register) }
 {
     match register {
-        Reg::X(n) => put_number(out, b"x", n),
-        Reg::Y(n) => put_number(out, b"y", n),
+        Reg::X(n) => put_marked(out, b"x", n),
+        Reg::Y(n) => put_marked(out, b"y", n),
     }
 }
 
@@ -94,6 +92,6 @@ fn put_pairs(out: &mut Bytes, pairs: &[(u64, u64)]) -> Result<(), NoMemory>
 fn put_pair(out: &mut Bytes, pair: (u64, u64)) -> Result<(), NoMemory>
     ensures { OnOk result (out.new.items ≡ out.old.items ++ pair_text pair) }
 {
-    put_number(out, b"", pair.0)?;
-    put_number(out, b":", pair.1)
+    put_number(out, pair.0)?;
+    put_marked(out, b":", pair.1)
 }

@@ -4,13 +4,11 @@ ghost use Rattle.std.specs.Prelude.{◌≡◌, ◌++◌, ◌≤◌, codes, lengt
 ghost use Rattle.hex.specs.Hex.{encode_lower};
 ghost use Rattle.listing_out.specs.Lines.{payload_lines, text_of};
 
-use crate::number::{ROW, put_row};
 use bk_base::{Bytes, NoMemory};
+use bk_text::{ROW, put_row};
 
 /// Appends the lines of a payload to `out`: two spaces and the digits of 32 bytes each, the last with
 /// the rest. An empty payload has no line.
-///
-/// Where memory is wanting, a front of them may have been appended.
 pub(crate) fn put_payload(out: &mut Bytes, payload: &[u8]) -> Result<(), NoMemory>
     ensures { OnOk result (out.new.items ≡ out.old.items ++ text_of (payload_lines payload.now)) }
 {

@@ -7,5 +7,5 @@ use Rattle.code_chunk.proofs.instructions.instruction.Goals as goal
 pub new-requires : goal.new-requires
 new-requires c =
     let arity = rw c.in_ok-row.ensures.ok_part at c.op_row.ensures.arity in
-    let count = many_at-length (operand_in (end_of c.byte.new.self)) c.in_ok-row.row.now.arity c.byte.new.self.rest c.in_ok-operands.operands c.operands.new.cur.rest c.in_ok-operands.ensures.read in
+    let count = many_at-length (operand_in (end_of c.args.cur.now)) c.in_ok-row.row.now.arity c.args.cur.now.rest c.in_ok-operands.operands c.operands.new.cur.rest c.in_ok-operands.ensures.read in
     arity ∙ ap (λ (n : _). Some n) (sym count)

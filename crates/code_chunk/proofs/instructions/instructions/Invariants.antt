@@ -2,7 +2,7 @@ use Rattle.std.proofs.Common.{◌≡◌, length}
 use Rattle.bk_codec.specs.Reading.{whole_of}
 use Rattle.bk_codec.proofs.ToTheEnd.{with_items}
 use Rattle.bk_base.specs.Place.{end_of}
-use Rattle.code_chunk.specs.Reading.{instr_at}
+use Rattle.code_chunk.proofs.Front.{instr_at}
 use Rattle.code_chunk.proofs.instructions.instructions.Given as goal
 
 abbrev pub invariant-instrs : goal.invariant-instrs

@@ -3,7 +3,8 @@ use Rattle.std.specs.Prelude.{codes}
 use Rattle.std.specs.Slice.Iter.{chunks_rest}
 use Rattle.hex.specs.Hex.{encode_lower}
 use Rattle.listing_out.specs.Lines.{payload_lines, text_of}
-use Rattle.listing_out.proofs.Rows.{lines-first, first_put}
+use Rattle.bk_text.proofs.Digits.{first_put}
+use Rattle.listing_out.proofs.Rows.{lines-first}
 use Rattle.listing_out.proofs.payload.put_payload.Goals as goal
 
 pub loop-row-preserved : goal.loop-row-preserved
