@@ -1,6 +1,7 @@
 -- The answer: what the words and the bytes that the named files hold decide.
 use Rattle.std.specs.Prelude.{ℕ, List, [], length, nat_lt, Option, Some, None, option_map, Result, Ok, Err, if◌then◌else◌}
 use Rattle.bk_codec.specs.Reading.{◌>>=◌}
+use Rattle.bk_port.specs.declared.reading.TheConstants.{MOST_BYTES}
 use Rattle.iff_form.specs.Text.{info_of}
 use Rattle.listing_out.specs.Lines.{listing_of}
 use Rattle.beam_cli.specs.declared.refusal.Refusal.{Refusal}
@@ -40,9 +41,9 @@ info_output bytes = chunks_of bytes >>= λ chunks. Ok (info_of chunks)
 abbrev pub disasm_output : List ℕ → Result (List ℕ) Refusal
 disasm_output bytes = value_of_file bytes >>= λ value. Ok (listing_of value)
 
--- a command on one file, which may have at most 16,777,216 bytes
+-- a command on one file, which may have at most so many bytes as are taken
 abbrev pub of_file : (List ℕ → Result (List ℕ) Refusal) → List ℕ → List ℕ → Answer
-of_file output name bytes = if nat_lt 16777216 (length bytes) then stopped (too_large_line name) TooLarge else answered name (output bytes)
+of_file output name bytes = if nat_lt MOST_BYTES (length bytes) then stopped (too_large_line name) TooLarge else answered name (output bytes)
 
 -- the output of a command for the bytes of its file
 abbrev pub output_of : Asked → List ℕ → Result (List ℕ) Refusal

@@ -1,9 +1,11 @@
-pub mod Code
+pub mod ExitStatus
 pub mod Words
 pub mod Asking
 pub mod Message
+pub mod Reasons
 pub mod Needs
 pub mod Showing
 pub mod Answer
 pub mod Outcome
 pub mod Stopping
+pub mod Printing

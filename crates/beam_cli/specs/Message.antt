@@ -1,5 +1,6 @@
 -- The messages: one line for each status from 2 on, which says the cause.
 use Rattle.std.specs.Prelude.{ℕ, List, ◌++◌, codes, decimal}
+use Rattle.bk_port.specs.declared.reading.TheConstants.{MOST_BYTES}
 use Rattle.iff_form.specs.declared.refusal.FormRefusal.{FormRefusal}
 use Rattle.iff_form.specs.declared.refusal.FormRefusal.TheVariants.{Gzip, NotBeam, Size, ChunkCut, Twice, NoMemory as FormMemory}
 use Rattle.compact_term.specs.declared.refusal.OperandRefusal.{OperandRefusal}
@@ -31,7 +32,7 @@ abbrev pub read_fault_line : List ℕ → List ℕ
 read_fault_line name = line_about name (codes "read fault")
 
 abbrev pub too_large_line : List ℕ → List ℕ
-too_large_line name = line_about name (codes "more than 16777216 bytes")
+too_large_line name = line_about name (codes "more than " ++ (decimal MOST_BYTES ++ codes " bytes"))
 
 abbrev pub write_fault_line : List ℕ
 write_fault_line = line (codes "write fault")

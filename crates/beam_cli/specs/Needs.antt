@@ -1,6 +1,6 @@
 -- What commands need of a file, with the first refusal where it is missing.
 use Rattle.std.specs.Prelude.{ℕ, List, Option, Some, None, Result, Ok, Err}
-use Rattle.bk_codec.specs.Reading.{◌>>=◌}
+use Rattle.bk_codec.specs.Reading.{◌>>=◌, refused_as}
 use Rattle.iff_form.specs.declared.id.Id.{Id}
 use Rattle.iff_form.specs.Chunk.{PlainChunk}
 use Rattle.iff_form.specs.Form.{payload_of}
@@ -11,11 +11,6 @@ use Rattle.beam_module.specs.File.{FileChunk}
 use Rattle.beam_module.specs.Reading.{file_of}
 use Rattle.beam_cli.specs.declared.refusal.Refusal.{Refusal}
 use Rattle.beam_cli.specs.declared.refusal.Refusal.TheVariants.{Form, Missing, Code, NoMemory}
-
--- what was read, or the refusal as one of the file
-abbrev pub refused_as : {A E : Type 0} → (E → Refusal) → Result A E → Result A Refusal
-refused_as why (Ok x) = Ok x
-refused_as why (Err e) = Err (why e)
 
 -- the chunks of the form that the file is
 abbrev pub chunks_of : List ℕ → Result (List PlainChunk) Refusal

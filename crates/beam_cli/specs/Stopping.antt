@@ -1,5 +1,5 @@
 -- Why a command stopped before its output: the status, the message and the cause.
-use Rattle.std.specs.Prelude.{◌≡◌, ◌<◌, ℕ, List, length, Option, IfSome, Any, ⊤}
+use Rattle.std.specs.Prelude.{◌≡◌, ◌⊎◌, ◌<◌, ℕ, List, length, Option, IfSome, Any, ⊤}
 use Rattle.std.specs.Borrow.{Bor}
 use Rattle.beam_cli.specs.declared.refusal.Refusal.{Refusal}
 use Rattle.beam_cli.specs.declared.refusal.Refusal.TheVariants as refusals
@@ -7,13 +7,14 @@ use Rattle.beam_cli.specs.declared.status.Status.{Status}
 use Rattle.beam_cli.specs.declared.status.Status.TheVariants as statuses
 use Rattle.beam_cli.specs.declared.stop.Stop.{Stop}
 use Rattle.beam_cli.specs.declared.stop.Stop.TheVariants.{Grammar, ReadFault, TooLarge, NoMemory}
+use Rattle.bk_port.specs.declared.reading.TheConstants.{MOST_BYTES}
 use Rattle.beam_cli.specs.Answer.{Answer, stopped}
+use Rattle.beam_cli.specs.Reasons.{IsReason}
 use Rattle.beam_cli.specs.Message.{line_about, read_fault_line, too_large_line, no_memory_line, refusal_text}
 
--- what stops a command on a file for a refusal
-abbrev pub stop_of : Bor (List ℕ) → Refusal → Stop
-stop_of name refusals.NoMemory = NoMemory
-stop_of name e = Grammar name e
+-- what stops a command on the file with this name: want of memory, or the reason to refuse the file
+abbrev pub IsStopFor : Bor (List ℕ) → Refusal → Stop → Type 0
+IsStopFor name e stop = ((e ≡ refusals.NoMemory) × (stop ≡ NoMemory)) ⊎ (IsReason e × (stop ≡ Grammar name e))
 
 abbrev pub status_of : Stop → Status
 status_of (Grammar name e) = statuses.Grammar
@@ -30,7 +31,7 @@ message_of NoMemory = no_memory_line
 -- a named file stopped it, and the answer says so, where it is told; a read fault comes only of a file
 -- whose faults rose
 abbrev pub HasReason : Option Answer → (List ℕ → Type 0) → List (List ℕ) → Stop → Type 0
-HasReason answer Faulty names (Grammar name e) = Any (λ n. n ≡ name.now) names × IfSome answer (λ a. a ≡ stopped (message_of (Grammar name e)) statuses.Grammar)
+HasReason answer Faulty names (Grammar name e) = Any (λ n. n ≡ name.now) names × IsReason e × IfSome answer (λ a. a ≡ stopped (message_of (Grammar name e)) statuses.Grammar)
 HasReason answer Faulty names (ReadFault name) = Any (λ n. (n ≡ name.now) × Faulty n) names
 HasReason answer Faulty names (TooLarge name) = Any (λ n. n ≡ name.now) names × IfSome answer (λ a. a ≡ stopped (message_of (TooLarge name)) statuses.TooLarge)
 HasReason answer Faulty names NoMemory = ⊤
@@ -44,5 +45,5 @@ IsTooLarge stop = ⊥
 abbrev pub HasLoadReason : Option (List ℕ) → Type 0 → List ℕ → Stop → Type 0
 HasLoadReason held Faulty name (Grammar other e) = ⊥
 HasLoadReason held Faulty name (ReadFault other) = (other.now ≡ name) × Faulty
-HasLoadReason held Faulty name (TooLarge other) = (other.now ≡ name) × IfSome held (λ all. 16777216 < length all)
+HasLoadReason held Faulty name (TooLarge other) = (other.now ≡ name) × IfSome held (λ all. MOST_BYTES < length all)
 HasLoadReason held Faulty name NoMemory = ⊤

@@ -4,6 +4,7 @@
 ghost use Rattle.std.specs.Prelude.{◌≡◌, [], ◌∷◌, IfOk};
 
 mod command;
+mod laws;
 mod making;
 mod needs;
 mod refusal;
@@ -15,6 +16,7 @@ mod status;
 mod stop;
 
 pub use crate::command::{Command, command_from};
+pub use crate::laws::{disasm_is_exact, info_is_exact, show_is_exact};
 pub use crate::refusal::Refusal;
 pub use crate::running::run;
 pub use crate::shown::Shown;
@@ -63,7 +65,7 @@ fn main(rt: HostRuntime) -> ExitCode {
     let mut out = StdSink::new(rt.stdout());
     let mut err = StdSink::new(rt.stderr());
     let alloc = rt.alloc();
-    let mut host = FileHost::new(rt);
+    let mut host = FileHost::new(rt, rt.stdin());
     let status = run(alloc, &words, &mut host, &mut out, &mut err);
     ExitCode::from(status.code())
 }

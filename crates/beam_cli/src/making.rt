@@ -1,14 +1,16 @@
 //! Making the output of a command.
 
-ghost use Rattle.std.specs.Prelude.{◌≡◌, ◌≤◌, ◌⊎◌, ℕ, List, [], ◌∷◌, length, Some, IfOk, IfErr, IfSome, IsErr, OnOk};
+ghost use Rattle.std.specs.Prelude.{◌≡◌, ◌+◌, ◌≤◌, ◌⊎◌, ℕ, List, [], ◌∷◌, length, Some, IfOk, IfErr, IfSome, IsErr, OnOk};
 ghost use Rattle.bk_codec.specs.Reading.{GivesAll};
 ghost use Rattle.bk_port.specs.Causes.{Rose};
 ghost use Rattle.bk_port.specs.Reading.{IsLeftAfter, HasReadAtMost};
+ghost use Rattle.bk_port.specs.declared.reading.TheConstants.{MOST_BYTES};
 ghost use Rattle.beam_cli.specs.Words.{named};
 ghost use Rattle.beam_cli.specs.Asking.{asked};
 ghost use Rattle.beam_cli.specs.Answer.{made, info_output, disasm_output, output_of, asked_answer};
 ghost use Rattle.beam_cli.specs.Outcome.{SomeLeft};
-ghost use Rattle.beam_cli.specs.Stopping.{HasReason, HasLoadReason, IsTooLarge, stop_of};
+ghost use Rattle.beam_cli.specs.Reasons.{IsRefusal};
+ghost use Rattle.beam_cli.specs.Stopping.{HasReason, HasLoadReason, IsStopFor, IsTooLarge};
 
 use crate::command::Command;
 use crate::needs::{form_of, value_of_file};
@@ -24,13 +26,13 @@ use std::alloc::Global;
 // The bytes of a named file.
 fn load_file<'a, H: Host>(alloc: Global, host: &mut H, name: &'a Text) -> Result<Bytes, Stop<'a>>
     ensures whole { IfOk result (λ bytes. IfSome (H.holds host.old name.now) (λ all. bytes.items ≡ all)) }
-    ensures size { IfOk result (λ bytes. length bytes.items ≤ 16777216) }
+    ensures size { IfOk result (λ bytes. length bytes.items ≤ MOST_BYTES) }
     ensures reason { IfErr result (λ stop. HasLoadReason (H.holds host.old name.now)
         (Rose (H.faults host.old name.now) (H.faults host.new name.now)) name.now stop) }
-    ensures too_large { IfErr result (λ stop. IsTooLarge stop → H.count host.new ≡ 16777217) }
-    ensures not_too_large { IfErr result (λ stop. IsTooLarge stop ⊎ HasReadAtMost 16777216 (H.count host.old) (H.count host.new)) }
-    ensures at_most { OnOk result (HasReadAtMost 16777216 (H.count host.old) (H.count host.new)) }
-    ensures left { IsLeftAfter 16777217 (H.holds host.old name.now) (H.left host.old) (H.left host.new) }
+    ensures too_large { IfErr result (λ stop. IsTooLarge stop → H.count host.new ≡ MOST_BYTES + 1) }
+    ensures not_too_large { IfErr result (λ stop. IsTooLarge stop ⊎ HasReadAtMost MOST_BYTES (H.count host.old) (H.count host.new)) }
+    ensures at_most { OnOk result (HasReadAtMost MOST_BYTES (H.count host.old) (H.count host.new)) }
+    ensures left { IsLeftAfter (MOST_BYTES + 1) (H.holds host.old name.now) (H.left host.old) (H.left host.new) }
     ensures holds { (n : List ℕ) → H.holds host.new n ≡ H.holds host.old n }
     ensures later { (n : List ℕ) → H.faults host.old n ≤ H.faults host.new n }
 {
@@ -44,7 +46,8 @@ fn load_file<'a, H: Host>(alloc: Global, host: &mut H, name: &'a Text) -> Result
 
 // The output of `info` for these bytes.
 fn info_of(alloc: Global, bytes: &[u8]) -> Result<Bytes, Refusal>
-    ensures { GivesAll Refusal.NoMemory (λ text. text.items) result (info_output bytes.now) }
+    ensures text { GivesAll Refusal.NoMemory (λ text. text.items) result (info_output bytes.now) }
+    ensures kind { IfErr result IsRefusal }
 {
     let form = form_of(alloc, bytes)?;
     Ok(info_text(alloc, &form)?)
@@ -52,7 +55,8 @@ fn info_of(alloc: Global, bytes: &[u8]) -> Result<Bytes, Refusal>
 
 // The output of `disasm` for these bytes.
 fn listing_of(alloc: Global, bytes: &[u8]) -> Result<Bytes, Refusal>
-    ensures { GivesAll Refusal.NoMemory (λ text. text.items) result (disasm_output bytes.now) }
+    ensures text { GivesAll Refusal.NoMemory (λ text. text.items) result (disasm_output bytes.now) }
+    ensures kind { IfErr result IsRefusal }
 {
     let value = value_of_file(alloc, bytes)?;
     Ok(listing(alloc, &value)?)
@@ -60,7 +64,8 @@ fn listing_of(alloc: Global, bytes: &[u8]) -> Result<Bytes, Refusal>
 
 // What stops a command on this file for a refusal.
 fn stop_for<'a>(name: &'a Text, refusal: Refusal) -> Stop<'a>
-    ensures { result ≡ stop_of name.entry refusal }
+    requires { IsRefusal refusal }
+    ensures { IsStopFor name.entry refusal result }
 {
     match refusal {
         Refusal::NoMemory => Stop::NoMemory,
@@ -70,7 +75,8 @@ fn stop_for<'a>(name: &'a Text, refusal: Refusal) -> Stop<'a>
 
 // The output of a command for the bytes of its file.
 fn output_of(alloc: Global, command: Command<'_>, bytes: &[u8]) -> Result<Bytes, Refusal>
-    ensures { GivesAll Refusal.NoMemory (λ text. text.items) result (output_of (asked command.entry) bytes.now) }
+    ensures text { GivesAll Refusal.NoMemory (λ text. text.items) result (output_of (asked command.entry) bytes.now) }
+    ensures kind { IfErr result IsRefusal }
 {
     match command {
         Command::Info(_) => info_of(alloc, bytes),
@@ -88,9 +94,9 @@ pub fn make<'a, H: Host>(
     ensures ok { IfOk result (λ text. IfSome (asked_answer (H.holds host.old) (asked command.entry)) (λ a. a ≡ made text.items)) }
     ensures reason { IfErr result (HasReason (asked_answer (H.holds host.old) (asked command.entry))
         (λ n. Rose (H.faults host.old n) (H.faults host.new n)) (named (Some (asked command.entry)))) }
-    ensures too_large { IfErr result (λ stop. IsTooLarge stop → H.count host.new ≡ 16777217) }
-    ensures not_too_large { IfErr result (λ stop. IsTooLarge stop ⊎ HasReadAtMost 16777216 (H.count host.old) (H.count host.new)) }
-    ensures at_most { OnOk result (HasReadAtMost 16777216 (H.count host.old) (H.count host.new)) }
+    ensures too_large { IfErr result (λ stop. IsTooLarge stop → H.count host.new ≡ MOST_BYTES + 1) }
+    ensures not_too_large { IfErr result (λ stop. IsTooLarge stop ⊎ HasReadAtMost MOST_BYTES (H.count host.old) (H.count host.new)) }
+    ensures at_most { OnOk result (HasReadAtMost MOST_BYTES (H.count host.old) (H.count host.new)) }
     ensures left { SomeLeft (H.holds host.old) (H.left host.old) (H.left host.new) (named (Some (asked command.entry))) }
 {
     let name = command.name();

@@ -1,55 +1,58 @@
 //! What commands need of a file.
 
-ghost use Rattle.std.specs.Prelude.{◌≡◌};
+ghost use Rattle.std.specs.Prelude.{◌≡◌, IfErr};
 ghost use Rattle.bk_codec.specs.Reading.{GivesAll};
 ghost use Rattle.beam_cli.specs.Needs.{chunks_of, payload_at, value_of_file};
+ghost use Rattle.beam_cli.specs.Reasons.{IsRefusal};
 ghost use Rattle.beam_cli.specs.Showing.{atoms_at};
 
 use crate::refusal::Refusal;
 use beam_module::{FileVal, ModuleRefusal, read_file};
-use iff_form::{Form, FormRefusal, Id, read_form};
-use index_tables::{Atoms, TableRefusal, read_atoms};
+use iff_form::{Form, Id, read_form};
+use index_tables::{Atoms, read_atoms};
 use std::alloc::Global;
 
 /// The form that the bytes are.
 pub fn form_of<'a>(alloc: Global, bytes: &'a [u8]) -> Result<Form<'a>, Refusal>
-    ensures { GivesAll Refusal.NoMemory (λ chunks. chunks) result (chunks_of bytes.now) }
+    ensures chunks { GivesAll Refusal.NoMemory (λ chunks. chunks) result (chunks_of bytes.now) }
+    ensures kind { IfErr result IsRefusal }
 {
     match read_form(alloc, bytes) {
         Ok(form) => Ok(form),
-        Err(FormRefusal::NoMemory) => Err(Refusal::NoMemory),
-        Err(refusal) => Err(Refusal::Form(refusal)),
+        Err(refusal) => Err(Refusal::of_form(refusal)),
     }
 }
 
 /// The payload of the chunk with this id.
 pub fn payload_of<'a>(form: &Form<'a>, id: Id) -> Result<&'a [u8], Refusal>
-    ensures { GivesAll Refusal.NoMemory (λ payload. payload.now) result (payload_at id form.now) }
+    ensures payload { GivesAll Refusal.NoMemory (λ payload. payload.now) result (payload_at id form.now) }
+    ensures kind { IfErr result IsRefusal }
 {
     form.find(id).ok_or(Refusal::Missing(id))
 }
 
 /// The atoms of the module.
 pub fn atoms_of(alloc: Global, form: &Form<'_>) -> Result<Atoms, Refusal>
-    ensures { GivesAll Refusal.NoMemory (λ names. names) result (atoms_at form.now) }
+    ensures names { GivesAll Refusal.NoMemory (λ names. names) result (atoms_at form.now) }
+    ensures kind { IfErr result IsRefusal }
 {
     let id = Id(*b"AtU8");
     let payload = payload_of(form, id)?;
     match read_atoms(alloc, payload) {
         Ok(atoms) => Ok(atoms),
-        Err(TableRefusal::NoMemory) => Err(Refusal::NoMemory),
-        Err(refusal) => Err(Refusal::Table(id, refusal)),
+        Err(refusal) => Err(Refusal::of_table(id, refusal)),
     }
 }
 
 /// The value of the file that the bytes are.
 pub fn value_of_file(alloc: Global, bytes: &[u8]) -> Result<FileVal, Refusal>
-    ensures { GivesAll Refusal.NoMemory (λ v. v) result (value_of_file bytes.now) }
+    ensures value { GivesAll Refusal.NoMemory (λ v. v) result (value_of_file bytes.now) }
+    ensures kind { IfErr result IsRefusal }
 {
     match read_file(alloc, bytes) {
         Ok(value) => Ok(value),
         Err(ModuleRefusal::NoMemory) => Err(Refusal::NoMemory),
-        Err(ModuleRefusal::Form(refusal)) => Err(Refusal::Form(refusal)),
-        Err(ModuleRefusal::Code(refusal)) => Err(Refusal::Code(refusal)),
+        Err(ModuleRefusal::Form(refusal)) => Err(Refusal::of_form(refusal)),
+        Err(ModuleRefusal::Code(refusal)) => Err(Refusal::of_code(refusal)),
     }
 }

@@ -5,6 +5,7 @@ ghost use Rattle.beam_cli.specs.declared.refusal.Refusal.TheVariants as refusals
 
 use bk_base::NoMemory;
 use code_chunk::CodeRefusal;
+use compact_term::OperandRefusal;
 use ext_term::TermRefusal;
 use iff_form::{FormRefusal, Id};
 use index_tables::TableRefusal;
@@ -28,6 +29,69 @@ pub enum Refusal {
     Code(CodeRefusal),
     /// Memory ran out.
     NoMemory,
+}
+
+impl Refusal {
+    ghost use Rattle.beam_cli.specs.Reasons.{IsRefusal, code_refusal, form_refusal, side_refusal, table_refusal, term_refusal};
+
+    /// A refusal of the form.
+    pub(crate) fn of_form(refusal: FormRefusal) -> Refusal
+        ensures as_stated { result ≡ form_refusal refusal }
+        ensures kind { IsRefusal result }
+    {
+        match refusal {
+            FormRefusal::NoMemory => Refusal::NoMemory,
+            refusal => Refusal::Form(refusal),
+        }
+    }
+
+    /// A refusal of the code.
+    pub(crate) fn of_code(refusal: CodeRefusal) -> Refusal
+        ensures as_stated { result ≡ code_refusal refusal }
+        ensures kind { IsRefusal result }
+    {
+        match refusal {
+            CodeRefusal::NoMemory => Refusal::NoMemory,
+            CodeRefusal::Operand {
+                why: OperandRefusal::NoMemory,
+                ..
+            } => Refusal::NoMemory,
+            refusal => Refusal::Code(refusal),
+        }
+    }
+
+    /// A refusal of the table in the chunk with this id.
+    pub(crate) fn of_table(id: Id, refusal: TableRefusal) -> Refusal
+        ensures as_stated { result ≡ table_refusal id refusal }
+        ensures kind { IsRefusal result }
+    {
+        match refusal {
+            TableRefusal::NoMemory => Refusal::NoMemory,
+            refusal => Refusal::Table(id, refusal),
+        }
+    }
+
+    /// A refusal of the literals or lines in the chunk with this id.
+    pub(crate) fn of_side(id: Id, refusal: SideRefusal) -> Refusal
+        ensures as_stated { result ≡ side_refusal id refusal }
+        ensures kind { IsRefusal result }
+    {
+        match refusal {
+            SideRefusal::NoMemory => Refusal::NoMemory,
+            refusal => Refusal::Side(id, refusal),
+        }
+    }
+
+    /// A refusal of the term in the chunk with this id.
+    pub(crate) fn of_term(id: Id, refusal: TermRefusal) -> Refusal
+        ensures as_stated { result ≡ term_refusal id refusal }
+        ensures kind { IsRefusal result }
+    {
+        match refusal {
+            TermRefusal::NoMemory => Refusal::NoMemory,
+            refusal => Refusal::Term(id, refusal),
+        }
+    }
 }
 
 impl From<NoMemory> for Refusal {

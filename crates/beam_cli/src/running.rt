@@ -1,8 +1,9 @@
 //! The whole of what the program does.
 
-ghost use Rattle.std.specs.Prelude.{◌≡◌, ◌↔◌, ◌⊎◌, None};
+ghost use Rattle.std.specs.Prelude.{◌≡◌, ◌+◌, ◌↔◌, ◌⊎◌, None};
 ghost use Rattle.bk_port.specs.Causes.{Rose};
 ghost use Rattle.bk_port.specs.Reading.{HasReadAtMost};
+ghost use Rattle.bk_port.specs.declared.reading.TheConstants.{MOST_BYTES};
 ghost use Rattle.beam_cli.specs.Words.{asked_by, named};
 ghost use Rattle.beam_cli.specs.Answer.{answer};
 ghost use Rattle.beam_cli.specs.Outcome.{IsStatus, IsOutput, IsAnswered, IsMessage, IsSaid, SomeRose, SomeLeft};
@@ -38,14 +39,13 @@ pub fn run<H: Host, O: Sink, E: Sink>(
     ensures usage_host { result ≡ Status.Usage → host.new ≡ host.old }
     ensures read_fault { result ≡ Status.ReadFault → SomeRose (H.faults host.old) (H.faults host.new) (named (asked_by words.now)) }
     ensures write_fault { result ≡ Status.WriteFault → Rose (O.faults out.old) (O.faults out.new) }
-    ensures too_large { result ≡ Status.TooLarge → H.count host.new ≡ 16777217 }
-    ensures not_too_large { (result ≡ Status.TooLarge) ⊎ HasReadAtMost 16777216 (H.count host.old) (H.count host.new) }
+    ensures too_large { result ≡ Status.TooLarge → H.count host.new ≡ MOST_BYTES + 1 }
+    ensures not_too_large { (result ≡ Status.TooLarge) ⊎ HasReadAtMost MOST_BYTES (H.count host.old) (H.count host.new) }
     // One message says the status and its cause.
     ensures message { IsMessage result (answer (H.holds host.old) words.now)
-        (IsSaid (E.written err.old) (E.written err.new) (E.faults err.old) (E.faults err.new))
+        (IsSaid E.written E.faults err.old err.new)
         (λ name. Rose (H.faults host.old name) (H.faults host.new name))
-        (named (asked_by words.now))
-        (E.written err.new ≡ E.written err.old) }
+        (named (asked_by words.now)) }
     // What is left of the host.
     ensures left { SomeLeft (H.holds host.old) (H.left host.old) (H.left host.new) (named (asked_by words.now)) }
 {

@@ -24,7 +24,7 @@ pub enum Status {
 }
 
 impl Status {
-    ghost use Rattle.beam_cli.specs.Code.{code_of};
+    ghost use Rattle.beam_cli.specs.ExitStatus.{code_of};
 
     /// The exit status of the process.
     pub fn code(self) -> u8

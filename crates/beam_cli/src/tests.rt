@@ -544,7 +544,7 @@ fn faults_and_limits_have_their_status(rt: HostRuntime) -> Result<(), Fail> {
         b"beamkit: F: more than 16777216 bytes\n".as_slice()
     );
     let mut out = MemSink::new(alloc, 100)?;
-    let mut host = FileHost::new(rt);
+    let mut host = FileHost::new(rt, rt.stdin());
     let (status, err) = call_over(alloc, &["info", "no such file"], &mut host, &mut out)?;
     assert_eq!(rt; status, Status::ReadFault);
     assert_eq!(rt;

@@ -1,4 +1,4 @@
-use Rattle.std.proofs.Common.{◌≡◌, ◌⊎◌, ℕ, List, Option, Some, subst}
+use Rattle.std.proofs.Common.{◌⊎◌, ℕ, List, Option, Some, subst}
 use Rattle.std.specs.Prelude.{Any}
 use Rattle.bk_port.specs.Causes.{Rose}
 use Rattle.beam_cli.specs.Words.{Asked, named}
@@ -12,12 +12,11 @@ use Rattle.beam_cli.proofs.running.run.Goals as goal
 pub returns-clause-message : goal.returns-clause-message
 returns-clause-message g c =
     let holds : List ℕ → Option (List ℕ) = g.H.Host.holds c.args.host.now in
-    let Said : List ℕ → Type 0 = IsSaid (g.E.Sink.written c.args.err.now) (g.E.Sink.written c.say_stop.new.err) (g.E.Sink.faults c.args.err.now) (g.E.Sink.faults c.say_stop.new.err) in
+    let Said : List ℕ → Type 0 = IsSaid g.E.Sink.written g.E.Sink.faults c.args.err.now c.say_stop.new.err in
     let Faulty : List ℕ → Type 0 = λ name. Rose (g.H.Host.faults c.args.host.now name) (g.H.Host.faults c.make.new.host name) in
-    let Nothing : Type 0 = g.E.Sink.written c.say_stop.new.err ≡ g.E.Sink.written c.args.err.now in
     let asks : Asked = asked c.in-Some.command in
-    rw c.status.ensures (subst (λ (o : Option Asked). IsMessage (status_of c.in-Err.stop) (answer_or_usage holds o) Said Faulty (named o) Nothing) c.in-Some.ensures
-    (message_at c.in-Err.stop (asked_answer holds asks) Said Faulty (named (Some asks)) Nothing c.in-Err.ensures.reason c.say_stop.ensures))
+    rw c.status.ensures (subst (λ (o : Option Asked). IsMessage (status_of c.in-Err.stop) (answer_or_usage holds o) Said Faulty (named o)) c.in-Some.ensures
+    (message_at c.in-Err.stop (asked_answer holds asks) Said Faulty (named (Some asks)) c.in-Err.ensures.reason c.say_stop.ensures))
 
 pub returns-clause-complete : goal.returns-clause-complete
 returns-clause-complete g c =
