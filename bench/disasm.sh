@@ -2,7 +2,8 @@
 # Makes a form whose code has 4 MB of mixed instructions, and prints the time of `beamkit disasm` on it
 # divided by that of `sha256sum` over its output, the most memory that it took divided by the size of
 # the output, and the time for twice the code divided by that for the code. Aim: below 3, below 8,
-# about 2.
+# about 2. Then it prints what the worst case takes, a file of 16 MiB whose instructions have one byte
+# each, for which there is no aim; it needs some gigabytes of memory.
 set -eu
 top=$(CDPATH= cd -- "$(dirname -- "$0")/.." && pwd)
 folder=$(mktemp -d)
@@ -54,22 +55,26 @@ def block(n):
     ))
 
 
-def form(path, size):
+def mixed(size):
     blocks, total, n = [], 0, 0
     while total < size:
         blocks.append(block(n))
         total += len(blocks[-1])
         n += 1
-    payload = struct.pack(">5I", 16, 0, 182, 60_001, n) + b"".join(blocks) + b"\x03"
+    return b"".join(blocks), n
+
+
+def form(path, code, functions):
+    payload = struct.pack(">5I", 16, 0, 182, 60_001, functions) + code + b"\x03"
     padded = payload + bytes(-len(payload) % 4)
     with open(path, "wb") as file:
         file.write(b"FOR1" + struct.pack(">I", 12 + len(padded)) + b"BEAMCode" + struct.pack(">I", len(payload)) + padded)
     return len(payload)
 
 
-once, twice, listing = (os.path.join(folder, name) for name in ("once.beam", "twice.beam", "listing"))
-size = form(once, 4_000_000)
-form(twice, 8_000_000)
+once, twice, short, listing = (os.path.join(folder, name) for name in ("once.beam", "twice.beam", "short.beam", "listing"))
+size = form(once, *mixed(4_000_000))
+form(twice, *mixed(8_000_000))
 double, _ = run([program, "disasm", twice], listing)
 own, peak = run([program, "disasm", once], listing)
 output = os.path.getsize(listing)
@@ -78,4 +83,8 @@ print(f"code {size} bytes, output {output} bytes")
 print(f"time {own:.4f} s, sha256sum {other:.4f} s, ratio {own / other:.2f}")
 print(f"memory {peak} bytes, ratio {peak / output:.2f}")
 print(f"twice the code {double:.4f} s, ratio {double / own:.2f}")
+size = form(short, b"\x13" * (16 * 1024 * 1024 - 44), 0)                        # return
+own, peak = run([program, "disasm", short], listing)
+output = os.path.getsize(listing)
+print(f"one-byte instructions {size} bytes: {own:.4f} s, memory {peak} bytes, {peak / output:.2f} times the output, {peak / size:.0f} times the code")
 PYTHON

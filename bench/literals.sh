@@ -2,7 +2,7 @@
 # Makes forms whose literals, not packed, are 7.5 MB and 15 MB of mixed small terms, and prints for the
 # first the time of `beamkit show literals` divided by that of `sha256sum` over its output, and the most
 # memory that it took divided by the sizes of the output and of the file; and then the same memory for
-# twice the literals, and the time for these divided by that for the first. Aim: below 12 times the
+# twice the literals, and the time for these divided by that for the first. Aim: below 4 times the
 # output, and about 2.
 set -eu
 top=$(CDPATH= cd -- "$(dirname -- "$0")/.." && pwd)
