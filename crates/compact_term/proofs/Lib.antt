@@ -1,9 +1,13 @@
 pub mod Taken
+pub mod Written
 pub mod Numbers
 pub mod Heads
 pub mod Operands
 pub mod Proper
+pub mod Bytes
 pub mod Fronts
 pub mod Keeping
 pub mod Memory
 pub mod Steadiness
+pub mod Chosen
+pub mod Shortest

@@ -209,7 +209,7 @@ long_again first tag number text rest small long =
     let read : length_at (long.count ++ (number ++ rest)) ≡ Ok (length number, number ++ rest) = length_again (length number) long.count (number ++ rest) (record { more = long.more; is = long.whole; counts = long.counts }) in
     record { read = ap length_at grouped ∙ read; tagged = omega arith; high = omega arith }
 
-number_length : (n x : ℕ) (text : List ℕ) → SpellsNumber n x text → length text ≡ n
+pub number_length : (n x : ℕ) (text : List ℕ) → SpellsNumber n x text → length text ≡ n
 number_length n x text is = ap length is.is ∙ length-bytes_high_first n x
 
 many_is : (first n x : ℕ) (z : ℤ) (text : List ℕ) → 248 ≤ first → first < 256 → n ≤ 16 → z ≡ twos_complement n x → Then (IsCount n) (SpellsNumber n x) text → InManyBytes (first % 8) z (first ∷ text)

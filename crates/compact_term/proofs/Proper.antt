@@ -24,17 +24,22 @@ use Rattle.compact_term.specs.Operand.{RegMeetsType, PlainMeetsType, PairMeetsTy
 mag-less : (x whole half : ℕ) → x < whole → whole ≤ x + half → mag (pos x -ℤ pos whole) < half
 mag-less x whole half below le = grind (arith, ints)
 
-pow256 : (n : ℕ) → 256 ^ n ≡ 2 ^ (8 * n)
+pub pow256 : (n : ℕ) → 256 ^ n ≡ 2 ^ (8 * n)
 pow256 zero = refl
 pow256 (suc n) =
     let more : 8 * suc n ≡ 8 * n + 8 = omega arith in
     pow-suc 256 n ∙ ap (λ (p : ℕ). p * 256) (pow256 n) ∙ sym (ap (λ (e : ℕ). 2 ^ e) more ∙ pow-add 2 (8 * n) 8)
 
--- n bytes hold less than half of 256 ^ n
-mag-twos_complement : (n x : ℕ) → 0 < n → x < 256 ^ n → mag (twos_complement n x) < 2 ^ (8 * n - 1)
-mag-twos_complement n x some fits =
+-- half of the numbers of n bytes
+pub twice_half : (n : ℕ) → 0 < n → 2 ^ (8 * n) ≡ 2 * 2 ^ (8 * n - 1)
+twice_half n some =
     let whole : 8 * n ≡ suc (8 * n - 1) = omega arith in
-    let twice : 2 ^ (8 * n) ≡ 2 * 2 ^ (8 * n - 1) = ap (λ (e : ℕ). 2 ^ e) whole ∙ pow-succ' 2 (8 * n - 1) in
+    ap (λ (e : ℕ). 2 ^ e) whole ∙ pow-succ' 2 (8 * n - 1)
+
+-- n bytes hold less than half of 256 ^ n
+pub mag-twos_complement : (n x : ℕ) → 0 < n → x < 256 ^ n → mag (twos_complement n x) < 2 ^ (8 * n - 1)
+mag-twos_complement n x some fits =
+    let twice = twice_half n some in
     let below : x < 2 ^ (8 * n) = rw (pow256 n) at fits in
     elim (cases_lt x (2 ^ (8 * n - 1))) [
       | inl lt ↦ rw (lt-ltb _ _ lt) lt

@@ -1,10 +1,12 @@
 //! What holds of the spellings of operands.
 
-ghost use Rattle.std.specs.Prelude.{◌≡◌, ℕ, ◌++◌, List};
+ghost use Rattle.std.specs.Prelude.{◌≡◌, ℕ, ◌<◌, ◌≤◌, ◌^◌, ◌++◌, List, length};
 ghost use Rattle.bk_codec.specs.Exact.{IsExactInFront, RefusalsStand, FrontsAreCut};
 ghost use Rattle.compact_term.specs.declared.operand.Operand.{Operand};
 ghost use Rattle.compact_term.specs.Spelling.{Spells};
 ghost use Rattle.compact_term.specs.Reading.{operand_at};
+ghost use Rattle.compact_term.specs.Operand.{MeetsType, IsProper};
+ghost use Rattle.compact_term.specs.Canonical.{canonical};
 
 use crate::refusal::OperandRefusal;
 
@@ -27,4 +29,15 @@ pub fn fronts_are_cut()
 /// No spelling of an operand begins another one, and each is of one operand.
 pub fn one_form()
     ensures { (a b x y : List ℕ) (o p : Operand) → Spells o a → Spells p b → a ++ x ≡ b ++ y → (a ≡ b) × (o ≡ p) }
+{}
+
+/// The canonical spelling of an operand is one of its spellings, where the operand is proper, has its
+/// numbers in the ranges of their types, and is written in less than 2^63 bytes.
+pub fn canonical_is_spelled()
+    ensures { (o : Operand) → MeetsType o → IsProper o → length (canonical o) < 2 ^ 63 → Spells o (canonical o) }
+{}
+
+/// No spelling of an operand is shorter than its canonical one.
+pub fn canonical_is_shortest()
+    ensures { (o : Operand) (bytes : List ℕ) → Spells o bytes → length (canonical o) ≤ length bytes }
 {}

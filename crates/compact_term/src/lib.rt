@@ -5,16 +5,23 @@ mod integer;
 mod laws;
 mod list;
 mod number;
+mod number_writing;
 mod operand;
 mod reader;
 mod refusal;
+mod tags;
+mod writer;
 
 pub use integer::{Integer128, WideInteger};
-pub use laws::{fronts_are_cut, one_form, reading_is_exact, refusals_stand};
+pub use laws::{
+    canonical_is_shortest, canonical_is_spelled, fronts_are_cut, one_form, reading_is_exact,
+    refusals_stand,
+};
 pub use list::{PairList, PlainList};
 pub use operand::{Operand, Plain, Reg};
 pub use reader::read_operand;
 pub use refusal::OperandRefusal;
+pub use writer::{spelled_len, write_operand};
 
 #[cfg(test)]
 mod tests;

@@ -1,5 +1,6 @@
 use super::*;
 use bk_base::{ByteList, Bytes, Cursor, NoMemory};
+use std::alloc::Global;
 use std::test::Fail;
 
 // Each spelling with what it reads as, which takes all of its bytes, or its refusal, which moves nothing.
@@ -84,6 +85,65 @@ fn operands_with_parts_are_read(rt: HostRuntime) -> Result<(), Fail> {
             assert_eq!(rt; pairs.as_slice(), [(0, 5), (2, 1)].as_slice());
         }
         _ => return Err("no allocation list".into()),
+    }
+    Ok(())
+}
+
+// Each spelling with the canonical one of the same operand.
+const REWRITTEN: [(&[u8], &[u8]); 13] = [
+    (&[0xf1], &[0xf1]),
+    (&[0x09, 0x10], &[0x09, 0x10]),
+    (&[0xe9, 0xff], &[0xe9, 0xff]),
+    (&[0x19, 0x08, 0x00], &[0x19, 0x08, 0x00]),
+    (&[0x19, 0xff, 0xff], &[0x19, 0xff, 0xff]),
+    (&[0x19, 0x80, 0x00], &[0x19, 0x80, 0x00]),
+    (&[0x39, 0xff, 0x7f, 0xff], &[0x39, 0xff, 0x7f, 0xff]),
+    (&[0x0b, 0x01], &[0x13]),
+    (
+        &[
+            0xf8, 0x00, 0x00, 0xff, 0xff, 0xff, 0xff, 0xff, 0xff, 0xff, 0xff,
+        ],
+        &[
+            0xf8, 0x00, 0x00, 0xff, 0xff, 0xff, 0xff, 0xff, 0xff, 0xff, 0xff,
+        ],
+    ),
+    // an integer of 17 bytes
+    (
+        &[
+            0xf9, 0x80, 1, 2, 3, 4, 5, 6, 7, 8, 9, 10, 11, 12, 13, 14, 15, 16, 17,
+        ],
+        &[
+            0xf9, 0x80, 1, 2, 3, 4, 5, 6, 7, 8, 9, 10, 11, 12, 13, 14, 15, 16, 17,
+        ],
+    ),
+    (&[0x57, 0x03, 0x70], &[0x57, 0x03, 0x70]),
+    (
+        &[0x37, 0x20, 0x00, 0x50, 0x20, 0x10],
+        &[0x37, 0x20, 0x00, 0x50, 0x20, 0x10],
+    ),
+    (&[0x17, 0x20, 0x12, 0x25], &[0x17, 0x20, 0x12, 0x25]),
+];
+
+// How long the canonical spelling of the operand is that the bytes spell, and that spelling, written
+// with room for just as many bytes.
+fn rewritten(alloc: Global, bytes: &[u8]) -> Result<(usize, Bytes), Fail> {
+    if bytes.len() > 100 {
+        return Err("too long".into());
+    }
+    let operand = read_operand(alloc, &mut Cursor::new(bytes))?;
+    let len = spelled_len(&operand);
+    let mut out = Bytes::new(alloc);
+    out.reserve(len)?;
+    write_operand(&operand, &mut out)?;
+    Ok((len, out))
+}
+
+#[test]
+fn operands_are_written(rt: HostRuntime) -> Result<(), Fail> {
+    for (bytes, expected) in REWRITTEN {
+        let (len, out) = rewritten(rt.alloc(), bytes)?;
+        assert_eq!(rt; out.as_slice(), expected);
+        assert_eq!(rt; len, expected.len());
     }
     Ok(())
 }

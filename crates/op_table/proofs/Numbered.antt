@@ -1,11 +1,11 @@
 -- The rows stand in the order of their numbers, and the data are the table.
-use Rattle.std.proofs.Common.{◌≡◌, ℕ, zero, suc, ◌+◌, ◌<◌, Bool, true, eqb, ◌&&◌, List, [], ◌∷◌, map, length, Option, Some, None, refl, sym, ap, ◌∙◌, arith}
+use Rattle.std.proofs.Common.{◌≡◌, ℕ, zero, suc, ◌+◌, ◌-◌, ◌<◌, Bool, true, eqb, ◌&&◌, List, [], ◌∷◌, map, length, Option, Some, None, refl, sym, ap, ◌∙◌, arith, inl, inr}
 use Rattle.std.specs.List.{find, slice_get}
 use Rattle.std.specs.Borrow.{Bor}
 use Rattle.std.specs.Option.{option_map, option_copied, IfSome}
 use Rattle.std.specs.Slice.{IsItemAt}
 use Rattle.std.proofs.lemmas.Option.{slice_get-map, slice_get_past, slice_get_read}
-use Rattle.std.proofs.lemmas.Bool.{and_parts, ltb-true, eqb-true, eq-eqb, ne_eqb}
+use Rattle.std.proofs.lemmas.Bool.{and_parts, cases_lt, ltb-true, eqb-true, eq-eqb, ne_eqb}
 use Rattle.op_table.specs.declared.row.OpRow.{OpRow}
 use Rattle.op_table.specs.Table.{Row, table, row_with, row_of, arity_of}
 
@@ -52,3 +52,15 @@ copied_at rows i (Some x) item = sym (slice_get_read rows (length rows) i x.now 
 pub arity_in : (op : ℕ) (r : Option (Bor OpRow)) → option_map row_of (option_copied r) ≡ row_with op → IfSome r (λ x. arity_of op ≡ Some x.now.arity)
 arity_in op None row = tt
 arity_in op (Some x) row = ap (option_map (λ (q : Row). q.arity)) (sym row)
+
+-- an opcode is a byte
+pub opcode_below : (op n : ℕ) → arity_of op ≡ Some n → op < 256
+unfolding table
+opcode_below op n has =
+    elim (cases_lt op 256) [
+      | inl lt ↦ lt
+      | inr le ↦
+          let none : row_with op ≡ None = find-numbered 1 (op - 1) op table (omega arith) table-numbered ∙ slice_get_past table (op - 1) (omega arith) in
+          let same : None ≡ Some n = sym (ap (option_map (λ (r : Row). r.arity)) none) ∙ has in
+          absurd cc
+    ]
