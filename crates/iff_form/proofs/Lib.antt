@@ -4,3 +4,5 @@ pub mod Whole
 pub mod Loop
 pub mod Refusals
 pub mod Payloads
+pub mod Canon
+pub mod Owned

@@ -4,6 +4,7 @@ use Rattle.std.specs.Str.{bytes_eq}
 use Rattle.byteorder.specs.Endian.{big_bytes}
 use Rattle.iff_form.specs.declared.id.Id.{Id}
 use Rattle.iff_form.specs.declared.chunk.Chunk.{Chunk}
+use Rattle.iff_form.specs.declared.chunk_list.OwnedChunk.{OwnedChunk}
 
 -- a chunk without where it lies
 pub record PlainChunk : Type 0 where
@@ -16,13 +17,23 @@ plain c = record { id = c.id; payload = c.payload.now }
 abbrev pub plains : List Chunk → List PlainChunk
 plains cs = map plain cs
 
+-- the same of a chunk that owns its payload
+abbrev pub owned_plain : OwnedChunk → PlainChunk
+owned_plain c = record { id = c.id; payload = c.payload }
+
+abbrev pub owned_plains : List OwnedChunk → List PlainChunk
+owned_plains cs = map owned_plain cs
+
 -- the fewest bytes that fill up n bytes to a multiple of four
 abbrev pub padding_of : ℕ → ℕ
 padding_of n = (4 - n % 4) % 4
 
--- how many bytes the chunk takes in a form
+-- how many bytes a chunk with a payload of n bytes takes in a form
+abbrev pub size_with : ℕ → ℕ
+size_with n = 8 + n + padding_of n
+
 abbrev pub chunk_size : PlainChunk → ℕ
-chunk_size c = 8 + length c.payload + padding_of (length c.payload)
+chunk_size c = size_with (length c.payload)
 
 -- the bytes are this chunk; the padding may be any bytes
 pub record SpellsChunk (c : PlainChunk) (bytes : List ℕ) : Type 0 where

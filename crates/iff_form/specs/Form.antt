@@ -1,6 +1,6 @@
 -- The form that a BEAM file is: `FOR1`, a word that is the file's length less 8, `BEAM`, and chunks, of which no two have the same id.
-use Rattle.std.specs.Prelude.{◌≡◌, ℕ, ◌+◌, ◌^◌, ◌<◌, List, [], ◌∷◌, ◌++◌, length, sum_by, codes, Option, Some, None, if◌then◌else◌}
-use Rattle.std.specs.List.{IsDistinct}
+use Rattle.std.specs.Prelude.{◌≡◌, ℕ, ◌+◌, ◌^◌, ◌<◌, false, List, [], ◌∷◌, ◌++◌, length, sum_by, codes, Option, Some, None, if◌then◌else◌}
+use Rattle.std.specs.List.{IsDistinct, list_any}
 use Rattle.std.specs.Str.{bytes_eq}
 use Rattle.byteorder.specs.Endian.{big_bytes}
 use Rattle.bk_codec.specs.Spelling.{SpellsMany}
@@ -10,6 +10,10 @@ use Rattle.iff_form.specs.Chunk.{PlainChunk, SpellsChunk, chunk_size, is_same_id
 -- no two chunks have the same id
 abbrev pub AreDistinct : List PlainChunk → Type 0
 AreDistinct chunks = IsDistinct is_same_id chunks
+
+-- no chunk has the id
+abbrev pub IsNew : Id → List PlainChunk → Type 0
+IsNew id chunks = list_any (λ c. bytes_eq id.0 c.id.0) chunks ≡ false
 
 -- what the size word of a form of these chunks is: `BEAM` and the chunks
 abbrev pub form_size : List PlainChunk → ℕ

@@ -1,3 +1,4 @@
+pub mod Canonical
 pub mod Chunk
 pub mod Form
 pub mod Kept

@@ -35,6 +35,7 @@ impl<'a> Form<'a> {
         ensures same { plains result.now ≡ self.now }
         ensures offsets { map (λ c. c.at) result.now ≡ offsets_from 12 self.now }
         ensures distinct { AreDistinct self.now }
+        ensures fits { form_size self.now < 2 ^ 32 }
     {
         self.chunks.as_slice()
     }

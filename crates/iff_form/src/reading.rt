@@ -1,13 +1,13 @@
 //! Reading a form.
 
-ghost use Rattle.std.specs.Prelude.{◌≡◌, ◌⊎◌, ◌+◌, ◌-◌, ◌<◌, ◌≤◌, List, [], length, drop, map, Ok, Err, IfOk, IfErr, OnOk};
+ghost use Rattle.std.specs.Prelude.{◌≡◌, ◌⊎◌, ◌+◌, ◌<◌, ◌≤◌, List, [], length, drop, map, Ok, Err, IfOk, IfErr, OnOk};
 ghost use Rattle.bk_codec.specs.Reading.{Gives, GivesAll};
-ghost use Rattle.iff_form.specs.Chunk.{PlainChunk, plain, plains, chunk_size, padding_of};
+ghost use Rattle.iff_form.specs.Chunk.{PlainChunk, plain, plains, chunk_size};
 ghost use Rattle.iff_form.specs.Form.{IsForm, offsets_from};
 ghost use Rattle.iff_form.specs.Refusal.{Refuses};
 ghost use Rattle.iff_form.specs.Reading.{chunk_at, chunks_from, form_of, is_marked, size_of};
 
-use crate::chunk::Chunk;
+use crate::chunk::{Chunk, padding};
 use crate::form::Form;
 use crate::id::Id;
 use crate::refusal::FormRefusal;
@@ -21,13 +21,6 @@ const HEAD_LEN: usize = 12;
 
 // How a gzip file begins.
 const GZIP_MARK: [u8; 2] = [0x1f, 0x8b];
-
-// How many bytes fill up a payload to a multiple of four.
-fn padding(size: usize) -> usize
-    ensures { result ≡ padding_of size }
-{
-    (4 - size % 4) % 4
-}
 
 #[tactic(auto, unfolding(crate::specs::Reading::chunk_at))]
 fn next_chunk<'a>(cursor: &mut Cursor<'a>) -> Result<Chunk<'a>, FormRefusal>

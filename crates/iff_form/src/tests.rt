@@ -1,4 +1,5 @@
 use super::*;
+use bk_base::Bytes;
 use std::test::Fail;
 
 #[test]
@@ -32,5 +33,25 @@ fn forms_are_read_or_refused(rt: HostRuntime) -> Result<(), Fail> {
     ] {
         assert_eq!(rt; read_form(rt.alloc(), bytes).err(), Some(refusal));
     }
+    Ok(())
+}
+
+#[test]
+fn chunks_are_written(rt: HostRuntime) -> Result<(), Fail> {
+    let mut chunks = ChunkList::new(rt.alloc());
+    let mut payload = Bytes::new(rt.alloc());
+    payload.push(b'x')?;
+    chunks.push(Id(*b"AtU8"), payload)?;
+    chunks.push(Id(*b"\0a-1"), Bytes::new(rt.alloc()))?;
+    assert_eq!(rt; chunks.len(), 2);
+    assert_eq!(rt; chunks.get(0).map(|chunk| chunk.id), Some(Id(*b"AtU8")));
+    assert!(rt; chunks.get(2).is_none());
+    let file = write_form(rt.alloc(), &chunks)?;
+    let bytes = b"FOR1\0\0\0\x18BEAMAtU8\0\0\0\x01x\0\0\0\0a-1\0\0\0\0";
+    assert_eq!(rt; file.as_slice(), bytes.as_slice());
+    chunks_meet_their_type();
+    a_form_has_its_size();
+    canonical_is_a_form();
+    canonical_has_its_size();
     Ok(())
 }

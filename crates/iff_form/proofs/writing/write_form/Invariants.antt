@@ -1,0 +1,8 @@
+use Rattle.std.proofs.Common.{◌≡◌, ◌++◌, take}
+use Rattle.std.specs.List.{flat_map}
+use Rattle.iff_form.specs.Canonical.{canonical_chunk}
+use Rattle.iff_form.specs.Chunk.{owned_plains}
+use Rattle.iff_form.proofs.writing.write_form.Given as goal
+
+abbrev pub invariant-loop-chunk : goal.invariant-loop-chunk
+invariant-loop-chunk l = l.out.items ≡ l.initial.out.items ++ flat_map canonical_chunk (owned_plains (take l.chunk-index l.chunk-items))
