@@ -33,7 +33,7 @@ word_then x Q bytes after rest long fits is left behind =
       joined = ap (λ (t : List ℕ). t ++ rest) whole ∙ append_assoc (take 4 bytes) after rest;
     }
 
-word_length : (x : ℕ) (word : List ℕ) → SpellsWord x word → length word ≡ 4
+pub word_length : (x : ℕ) (word : List ℕ) → SpellsWord x word → length word ≡ 4
 word_length x word is = ap length is.is ∙ length-bytes_high_first 4 x
 
 word_value : (x : ℕ) (word rest : List ℕ) → SpellsWord x word → big_number 4 (word ++ rest) ≡ x

@@ -6,3 +6,5 @@ pub mod Codes
 pub mod Wrong
 pub mod Refused
 pub mod One
+pub mod Spelled
+pub mod Bytes

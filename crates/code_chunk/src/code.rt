@@ -17,7 +17,10 @@ use byteorder::{BigEndian, ByteOrder};
 use std::alloc::Global;
 
 // The bytes of the four words of the sub-header, which may be longer.
-const LEAST_HEADER: u32 = 16;
+pub(crate) const LEAST_HEADER: u32 = 16;
+
+// The first of these words.
+pub(crate) const FORMAT: u32 = 0;
 
 /// What the chunk holds.
 #[derive(Debug, Drop)]
@@ -46,7 +49,7 @@ fn sub_header<'a>(cur: &mut Cursor<'a>) -> Result<&'a [u8], CodeRefusal>
         return Err(CodeRefusal::Header);
     }
     let header = cur.take(size as usize).ok_or(CodeRefusal::Header)?;
-    if BigEndian::read_u32(header) != 0 {
+    if BigEndian::read_u32(header) != FORMAT {
         return Err(CodeRefusal::Header);
     }
     Ok(header)

@@ -1,12 +1,14 @@
 //! What holds of the spellings of instructions and code.
 
-ghost use Rattle.std.specs.Prelude.{◌≡◌, ◌↔◌, ℕ, ◌++◌, List, Err};
+ghost use Rattle.std.specs.Prelude.{◌≡◌, ◌↔◌, ℕ, ◌^◌, ◌<◌, ◌≤◌, ◌++◌, List, length, Err};
 ghost use Rattle.bk_codec.specs.Spelling.{IsBytes};
 ghost use Rattle.bk_codec.specs.Exact.{IsExact};
 ghost use Rattle.op_table.specs.Instruction.{Instruction};
 ghost use Rattle.code_chunk.specs.declared.code.CodeVal.{CodeVal};
 ghost use Rattle.code_chunk.specs.declared.refusal.CodeRefusal.{CodeRefusal};
 ghost use Rattle.code_chunk.specs.Spelling.{SpellsInstr, SpellsCode};
+ghost use Rattle.code_chunk.specs.Code.{InstrMeetsType, CodeMeetsType, IsProperInstr, IsProperCode};
+ghost use Rattle.code_chunk.specs.Canonical.{canonical_instr, canonical_code};
 ghost use Rattle.code_chunk.specs.Reading.{code_at};
 ghost use Rattle.code_chunk.specs.Stop.{IsStop, IsWrong};
 
@@ -31,3 +33,37 @@ pub fn one_code()
 pub fn one_stop()
     ensures { (bytes : List ℕ) (m n : ℕ) → IsStop m bytes → IsStop n bytes → m ≡ n }
 {}
+
+/// Bytes that spell code spell a value that meets its type and is proper.
+pub fn spelled_code_is_proper()
+    ensures meets_type { (c : CodeVal) (payload : List ℕ) → IsBytes payload → SpellsCode c payload → CodeMeetsType c }
+    ensures proper { (c : CodeVal) (payload : List ℕ) → IsBytes payload → SpellsCode c payload → IsProperCode c }
+{}
+
+/// Whatever spells code that meets its type is bytes.
+pub fn spelled_code_is_bytes()
+    ensures { (c : CodeVal) (payload : List ℕ) → CodeMeetsType c → SpellsCode c payload → IsBytes payload }
+{}
+
+/// What is written of an instruction spells it, where it meets its type, its operands are proper and
+/// there are fewer than 2^63 bytes.
+pub fn canonical_instr_is_spelled()
+    ensures { (i : Instruction) → InstrMeetsType i → IsProperInstr i → length (canonical_instr i) < 2 ^ 63 → SpellsInstr i (canonical_instr i) }
+{
+    compact_term::canonical_is_spelled();
+}
+
+/// What is written of code spells it, where it meets its type, is proper and there are fewer than
+/// 2^32 bytes.
+pub fn canonical_code_is_spelled()
+    ensures { (c : CodeVal) → CodeMeetsType c → IsProperCode c → length (canonical_code c) < 2 ^ 32 → SpellsCode c (canonical_code c) }
+{
+    compact_term::canonical_is_spelled();
+}
+
+/// No payload that spells code is shorter than what is written of it.
+pub fn canonical_code_is_shortest()
+    ensures { (c : CodeVal) (payload : List ℕ) → SpellsCode c payload → length (canonical_code c) ≤ length payload }
+{
+    compact_term::canonical_is_shortest();
+}

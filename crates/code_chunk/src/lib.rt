@@ -5,11 +5,16 @@ mod code;
 mod instructions;
 mod laws;
 mod refusal;
+mod writing;
 
 pub use code::{CodeVal, read_code};
 pub use instructions::InstrList;
-pub use laws::{one_code, one_instr_form, one_stop, reading_is_exact};
+pub use laws::{
+    canonical_code_is_shortest, canonical_code_is_spelled, canonical_instr_is_spelled, one_code,
+    one_instr_form, one_stop, reading_is_exact, spelled_code_is_bytes, spelled_code_is_proper,
+};
 pub use refusal::CodeRefusal;
+pub use writing::write_code;
 
 #[cfg(test)]
 mod tests;

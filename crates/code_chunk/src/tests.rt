@@ -1,5 +1,8 @@
+ghost use Rattle.std.specs.Prelude.{◌<◌, ◌^◌, length};
+
 use super::*;
 use compact_term::{Operand, OperandRefusal, Plain};
+use std::process::Abort;
 use std::test::Fail;
 
 // The size of the sub-header, and its four words: format 0, opcode 3, one label and no function.
@@ -124,6 +127,35 @@ fn long_code_is_read_whole(rt: HostRuntime) -> Result<(), Fail> {
     for (i, member) in members.as_slice().iter().enumerate() {
         assert!(rt; matches!(member, Plain::U(n) if *n == i as u64));
     }
+    Ok(())
+}
+
+// Reads a payload, and compares what is written of its code.
+fn writes(rt: &(impl Abort + AllocGlobal), payload: &[u8], written: &[u8]) -> Result<(), Fail>
+    requires { length payload.now < 2 ^ 32 }
+{
+    canonical_code_is_shortest();
+    let code = read_code(rt.alloc(), payload)?;
+    let found = write_code(rt.alloc(), &code)?;
+    assert_eq!(rt; found.as_slice(), written);
+    Ok(())
+}
+
+#[test]
+fn code_is_written(rt: HostRuntime) -> Result<(), Fail> {
+    // x1 in two bytes, which is written in one
+    writes(
+        &rt,
+        b"\0\0\0\x10\0\0\0\0\0\0\0\x03\0\0\0\x01\0\0\0\0\x40\x03\x0b\x01\x03",
+        b"\0\0\0\x10\0\0\0\0\0\0\0\x03\0\0\0\x01\0\0\0\0\x40\x03\x13\x03",
+    )?;
+    // two extra bytes in the sub-header
+    let extra = b"\0\0\0\x12\0\0\0\0\0\0\0\x03\0\0\0\x01\0\0\0\0\x07\x08\x40\x03\x13\x03";
+    writes(&rt, extra, extra)?;
+    canonical_instr_is_spelled();
+    canonical_code_is_spelled();
+    spelled_code_is_bytes();
+    spelled_code_is_proper();
     Ok(())
 }
 
