@@ -1,4 +1,10 @@
 pub mod ChunkLemmas
 pub mod Values
+pub mod CanonicalFile
 pub mod Files
 pub mod One
+pub mod Least
+pub mod Differ
+pub mod Names
+pub mod ByIds
+pub mod Kept

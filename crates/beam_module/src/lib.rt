@@ -2,16 +2,27 @@
 #![tactic(auto)]
 
 mod chunk_value;
+mod comparison;
 mod file_value;
 mod laws;
+mod naming;
 mod reading;
 mod refusal;
+mod stripping;
+mod writing;
 
 pub use chunk_value::ChunkVal;
+pub use comparison::{Compared, compare};
 pub use file_value::FileVal;
-pub use laws::{one_file, reading_is_exact};
+pub use laws::{
+    a_file_has_a_canon, canon_is_a_file, canon_is_shortest, comparison_tells_what_differs,
+    names_are_exact, one_comparison, one_file, reading_is_exact,
+};
+pub use naming::module_name;
 pub use reading::read_file;
-pub use refusal::ModuleRefusal;
+pub use refusal::{ModuleRefusal, TableWhy};
+pub use stripping::strip;
+pub use writing::canon;
 
 #[cfg(test)]
 mod tests;

@@ -5,6 +5,7 @@ ghost use Rattle.bk_codec.specs.Reading.{GivesAll};
 ghost use Rattle.iff_form.specs.Chunk.{plain, plains};
 ghost use Rattle.iff_form.specs.Form.{IsForm};
 ghost use Rattle.beam_module.specs.File.{FileChunk, IsFile};
+ghost use Rattle.beam_module.specs.Canonical.{IsWritable};
 ghost use Rattle.beam_module.specs.Reading.{file_of, form_or, value_of, values_of};
 
 use crate::chunk_value::ChunkVal;
@@ -73,6 +74,8 @@ fn whole_file(alloc: Global, bytes: &[u8]) -> Result<FileVal, ModuleRefusal>
 pub fn read_file(alloc: Global, bytes: &[u8]) -> Result<FileVal, ModuleRefusal>
     // The bytes are a file of what is read.
     ensures found { IfOk result (λ v. IsFile v bytes.now) }
+    // What is read can be written.
+    ensures writable { IfOk result IsWritable }
     // Each file is read, unless memory runs out.
     ensures only { (v : List FileChunk) → IsFile v bytes.now → (result ≡ Ok v) ⊎ (result ≡ Err ModuleRefusal.NoMemory) }
     // What the reading from left to right gives.

@@ -5,16 +5,35 @@ ghost use Rattle.beam_module.specs.declared.refusal.ModuleRefusal.TheVariants as
 
 use bk_base::NoMemory;
 use code_chunk::CodeRefusal;
-use iff_form::FormRefusal;
+use iff_form::{FormRefusal, Id};
+use index_tables::TableRefusal;
+use side_tables::SideRefusal;
 use std::alloc::AllocFailed;
 use thiserror::Error;
 
-/// Why bytes are no file. A refusal that is carried here is never one for want of memory.
+/// Why the payload of a chunk is not its table.
+#[derive(Clone, Copy, Debug, PartialEq, Eq, Error)]
+pub enum TableWhy {
+    /// It is no table of names.
+    #[error("{0}")]
+    Index(TableRefusal),
+    /// It is no table of literals or lines.
+    #[error("{0}")]
+    Side(SideRefusal),
+}
+
+/// Why bytes are no file, or no module. A refusal that is carried here is never one for want of memory.
 #[derive(Clone, Copy, Debug, PartialEq, Eq, Error)]
 pub enum ModuleRefusal {
     /// The bytes are no form.
     #[error("{0}")]
     Form(FormRefusal),
+    /// The form has no chunk with this id, or the chunk lacks the atom that it has to have.
+    #[error("no chunk {id:?}")]
+    Missing { id: Id },
+    /// The payload of the chunk with this id is not its table.
+    #[error("{id:?}: {why}")]
+    Table { id: Id, why: TableWhy },
     /// The payload of the chunk `Code` is no code.
     #[error("Code: {0}")]
     Code(CodeRefusal),

@@ -1,0 +1,9 @@
+use Rattle.std.proofs.Common.{◌≡◌, List, drop}
+use Rattle.std.specs.Prelude.{None}
+use Rattle.iff_form.specs.Chunk.{PlainChunk, plains}
+use Rattle.beam_module.specs.Comparison.{HasPayloads, ids_changed, least_from}
+use Rattle.beam_module.proofs.comparison.least_changed.Given as goal
+
+abbrev pub invariant-loop-chunk : goal.invariant-loop-chunk
+invariant-loop-chunk l =
+    (b : List PlainChunk) → HasPayloads l.others b → least_from l.least (ids_changed (plains (drop l.chunk-index l.chunk-items)) b) ≡ least_from None (ids_changed (plains l.chunk-items) b)

@@ -1,0 +1,54 @@
+//! The name of a module.
+
+ghost use Rattle.std.specs.Prelude.{◌≡◌, ◌⊎◌, ℕ, List, IfOk, Ok, Err, slice_get};
+ghost use Rattle.bk_codec.specs.Reading.{GivesAll};
+ghost use Rattle.iff_form.specs.Form.{payload_of};
+ghost use Rattle.beam_module.specs.Name.{AreAtoms, IsModuleName, atoms_id, atoms_in, name_of};
+
+use crate::refusal::{ModuleRefusal, TableWhy};
+use bk_base::Text;
+use iff_form::{Form, Id};
+use index_tables::{Atoms, TableRefusal, read_atoms};
+use std::alloc::Global;
+
+// The id of the chunk that holds the atoms.
+const ATOMS: Id = Id(*b"AtU8");
+
+fn atoms_from(alloc: Global, form: &Form<'_>) -> Result<Atoms, ModuleRefusal>
+    ensures found { IfOk result (λ names. AreAtoms names form.now) }
+    ensures only { (names : List (List ℕ)) → AreAtoms names form.now → (result ≡ Ok names) ⊎ (result ≡ Err ModuleRefusal.NoMemory) }
+    ensures exact { GivesAll ModuleRefusal.NoMemory (λ names. names) result (atoms_in (payload_of atoms_id form.now)) }
+{
+    let payload = form
+        .find(ATOMS)
+        .ok_or(ModuleRefusal::Missing { id: ATOMS })?;
+    match read_atoms(alloc, payload) {
+        Ok(atoms) => Ok(atoms),
+        Err(TableRefusal::NoMemory) => Err(ModuleRefusal::NoMemory),
+        Err(refusal) => Err(ModuleRefusal::Table {
+            id: ATOMS,
+            why: TableWhy::Index(refusal),
+        }),
+    }
+}
+
+// The first of the atoms, taken out of the table without a copy.
+fn first(atoms: Atoms) -> Option<Text>
+    ensures { result ≡ slice_get atoms 0 }
+{
+    Vec::from(atoms).into_iter().next()
+}
+
+/// The name of the module of a form: its first atom. It is refused where there is no chunk `AtU8`, as
+/// its atoms are, and where it has no atom.
+pub fn module_name(alloc: Global, form: &Form<'_>) -> Result<Text, ModuleRefusal>
+    // The form has a table of atoms, whose first is what is answered.
+    ensures found { IfOk result (λ name. IsModuleName name form.now) }
+    // Where it has one, its first atom is answered, unless memory runs out.
+    ensures only { (name : List ℕ) → IsModuleName name form.now → (result ≡ Ok name) ⊎ (result ≡ Err ModuleRefusal.NoMemory) }
+    // What the reading gives.
+    ensures exact { GivesAll ModuleRefusal.NoMemory (λ name. name) result (name_of form.now) }
+{
+    let atoms = atoms_from(alloc, form)?;
+    first(atoms).ok_or(ModuleRefusal::Missing { id: ATOMS })
+}
