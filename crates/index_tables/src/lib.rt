@@ -16,7 +16,9 @@ pub use laws::{atoms_are_decided, entries_are_decided, reading_is_exact};
 pub use reading::{read_atoms, read_entries, read_exports, read_funs, read_imports, read_locals};
 pub use refusal::TableRefusal;
 pub use table::{Atoms, Exports, Funs, Imports};
-pub use text::{EntryLine, atoms_text, entries_text, exports_text, funs_text, imports_text};
+pub use text::{
+    EntryLine, atoms_text, entries_text, exports_text, funs_text, imports_text, put_import,
+};
 
 #[cfg(test)]
 mod tests;

@@ -160,7 +160,8 @@ fn put_atom_line(out: &mut Bytes, number: usize, name: &[u8]) -> Result<(), NoMe
     out.push(b'\n')
 }
 
-fn put_import(out: &mut Bytes, atoms: &Atoms, import: &Import) -> Result<(), NoMemory>
+/// Puts an import `MODULE:FUNCTION/ARITY` at the end, whose numbers are those of atoms.
+pub fn put_import(out: &mut Bytes, atoms: &Atoms, import: &Import) -> Result<(), NoMemory>
     requires { All (IsAtom atoms.now) (import_atoms import.now) }
     ensures { OnOk result (out.new.items ≡ out.old.items ++ import_text atoms.now import.now) }
 {

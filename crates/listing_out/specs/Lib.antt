@@ -1,2 +1,3 @@
 pub mod Operand
 pub mod Lines
+pub mod Comments

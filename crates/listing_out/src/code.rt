@@ -3,21 +3,25 @@
 ghost use Rattle.std.specs.Prelude.{◌≡◌, ◌∷◌, ◌++◌, map, OnOk};
 ghost use Rattle.op_table.specs.Table.{row_with};
 ghost use Rattle.listing_out.specs.Lines.{name_of, extra_text, code_line, instruction_line, text_of};
+ghost use Rattle.listing_out.specs.Comments.{commented_instruction};
 
+use crate::comments::put_comment;
+use crate::names::Names;
 use crate::operand::put_operand;
 use bk_base::{Bytes, NoMemory};
 use bk_text::{put_hex, put_marked};
 use code_chunk::CodeVal;
 use op_table::{Instr, op_row};
 
-/// Appends the lines of code to `out`: the line `code H L F E`, and one for each instruction, in order.
-pub(crate) fn put_code(out: &mut Bytes, code: &CodeVal) -> Result<(), NoMemory>
-    ensures { OnOk result (out.new.items ≡ out.old.items ++ text_of (code_line code.now ∷ map instruction_line code.now.instrs)) }
+/// Appends the lines of code to `out`: the line `code H L F E`, and one for each instruction with its
+/// comment, in order.
+pub(crate) fn put_code(out: &mut Bytes, names: &Names, code: &CodeVal) -> Result<(), NoMemory>
+    ensures { OnOk result (out.new.items ≡ out.old.items ++ text_of (code_line code.now ∷ map (commented_instruction names.now) code.now.instrs)) }
 {
     put_header(out, code)?;
     out.push(b'\n')?;
     for instr in code.instrs.as_slice() {
-        put_instruction(out, instr)?;
+        put_commented(out, names, instr)?;
         out.push(b'\n')?;
     }
     Ok(())
@@ -40,6 +44,13 @@ fn put_extra(out: &mut Bytes, extra: &[u8]) -> Result<(), NoMemory>
         [] => out.push(b'-'),
         _ => put_hex(out, extra),
     }
+}
+
+fn put_commented(out: &mut Bytes, names: &Names, instr: &Instr) -> Result<(), NoMemory>
+    ensures { OnOk result (out.new.items ≡ out.old.items ++ commented_instruction names.now instr.now) }
+{
+    put_instruction(out, instr)?;
+    put_comment(out, names, instr)
 }
 
 fn put_instruction(out: &mut Bytes, instr: &Instr) -> Result<(), NoMemory>

@@ -1,9 +1,11 @@
 //! The listing of a file.
 
 ghost use Rattle.std.specs.Prelude.{◌≡◌, ◌++◌, IfOk, OnOk};
-ghost use Rattle.listing_out.specs.Lines.{chunk_lines, listing_of, text_of};
+ghost use Rattle.listing_out.specs.Lines.{text_of};
+ghost use Rattle.listing_out.specs.Comments.{commented_chunk, commented_listing};
 
 use crate::code::put_code;
+use crate::names::Names;
 use crate::payload::put_payload;
 use beam_module::{ChunkVal, FileVal};
 use bk_base::{Bytes, NoMemory};
@@ -16,26 +18,28 @@ use std::alloc::Global;
 /// A payload is a line `chunk ID`, and lines of two spaces and 32 bytes in hexadecimal, the last one
 /// with the rest; an empty payload has none. Code is a line `code H L F E` with the highest opcode,
 /// the counts of labels and of functions, and the extra bytes of the sub-header in hexadecimal or
-/// `-` for none, and a line of two spaces, the name and the operands for each instruction. There are
-/// no comments.
+/// `-` for none, and a line of two spaces, the name and the operands for each instruction. Behind
+/// these stand two spaces, `; ` and what the atoms and imports in the operands are called, where the
+/// file's tables tell it.
 ///
 /// It fails only where memory is wanting.
 pub fn listing(alloc: Global, v: &FileVal) -> Result<Bytes, NoMemory>
-    ensures { IfOk result (λ text. text.items ≡ listing_of v.now) }
+    ensures { IfOk result (λ text. text.items ≡ commented_listing v.now) }
 {
+    let names = Names::of_file(alloc, v)?;
     let mut out = Bytes::new(alloc);
     out.extend(b"beam 1\n")?;
     for chunk in v.as_slice() {
-        put_chunk(&mut out, chunk)?;
+        put_chunk(&mut out, &names, chunk)?;
     }
     Ok(out)
 }
 
-fn put_chunk(out: &mut Bytes, chunk: &(Id, ChunkVal)) -> Result<(), NoMemory>
-    ensures { OnOk result (out.new.items ≡ out.old.items ++ text_of (chunk_lines chunk.now)) }
+fn put_chunk(out: &mut Bytes, names: &Names, chunk: &(Id, ChunkVal)) -> Result<(), NoMemory>
+    ensures { OnOk result (out.new.items ≡ out.old.items ++ text_of (commented_chunk names.now chunk.now)) }
 {
     match &chunk.1 {
-        ChunkVal::Code(code) => put_code(out, code),
+        ChunkVal::Code(code) => put_code(out, names, code),
         ChunkVal::Raw(payload) => {
             out.extend(b"chunk ")?;
             out.extend(IdText::new(chunk.0).as_bytes())?;

@@ -2,7 +2,9 @@
 #![tactic(auto)]
 
 mod code;
+mod comments;
 mod file;
+mod names;
 mod operand;
 mod payload;
 

@@ -1,12 +1,14 @@
 use super::*;
 use crate::code::put_code;
+use crate::names::Names;
 use crate::operand::put_operand;
 use crate::payload::put_payload;
 use beam_module::{ChunkVal, FileVal};
-use bk_base::{ByteList, Bytes, Cursor};
+use bk_base::{ByteList, Bytes, Cursor, ItemList};
 use code_chunk::read_code;
 use compact_term::read_operand;
 use iff_form::Id;
+use std::alloc::Global;
 use std::test::Fail;
 
 #[test]
@@ -26,15 +28,32 @@ fn a_file_is_listed(rt: HostRuntime) -> Result<(), Fail> {
     Ok(())
 }
 
+// These names, as they stand in comments.
+fn names_of(alloc: Global, names: &[&str]) -> Result<ItemList<ByteList>, Fail> {
+    let mut list = ItemList::new(alloc);
+    for name in names {
+        list.push(ByteList::from_slice(alloc, name.as_bytes())?)?;
+    }
+    Ok(list)
+}
+
 #[test]
 fn code_has_a_line_for_each_instruction(rt: HostRuntime) -> Result<(), Fail> {
     let code = [
         0, 0, 0, 17, 0, 0, 0, 0, 0, 0, 0, 64, 0, 0, 0, 1, 0, 0, 0, 2, 0xff, 0x40, 0x03, 0x0b, 0x01,
-        0x40, 0x47, 0x70, 0x03, 3,
+        0x40, 0x47, 0x70, 0x03, 0x02, 0x12, 0x22, 0x00, 0x40, 0x02, 0x03, 0x07, 0x10, 0x00, 0x7c,
+        0x05, 0x10, 0x00, 0x03, 0x03, 0x3b, 0x03, 0x35, 0x17, 0x20, 0x12, 0x25, 0x40, 0x32, 0x03,
+        3,
     ];
+    let names = Names {
+        atoms: names_of(rt.alloc(), &["m", "'a b'"])?,
+        imports: names_of(rt.alloc(), &["erlang:f/1"])?,
+    };
     let mut out = Bytes::new(rt.alloc());
-    put_code(&mut out, &read_code(rt.alloc(), &code)?)?;
-    let lines = b"code 64 1 2 ff\n  move x0 x1\n  move l7 x0\n  int_code_end\n";
+    put_code(&mut out, &names, &read_code(rt.alloc(), &code)?)?;
+    let lines = b"code 64 1 2 ff\n  move x0 x1\n  move l7 x0\n  func_info a1 a2 u0  ; m 'a b'\n\
+\x20 move a0 x0\n  call_ext u1 u0  ; erlang:f/1\n  gc_bif1 f0 u1 u0 x0 x0  ; erlang:f/1\n\
+\x20 select_val x0 f3 [a1,f2]  ; m\n  move a3 x0\n  int_code_end\n";
     assert_eq!(rt; out.as_slice(), lines.as_slice());
     Ok(())
 }
