@@ -1,3 +1,5 @@
+pub mod Loads
+pub mod Makes
 pub mod Messages
 pub mod Parts
 pub mod Printed

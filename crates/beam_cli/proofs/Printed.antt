@@ -1,15 +1,16 @@
 -- What a command prints is what the grammars say that it prints.
-use Rattle.std.proofs.Common.{◌≡◌, ℕ, List, [], ◌∷◌, ◌++◌, codes, Option, Some, None, Result, Ok, refl, sym, ap, subst, inl, inr}
-use Rattle.std.specs.Prelude.{bytes_eq}
+use Rattle.std.proofs.Common.{◌≡◌, ◌⊎◌, ℕ, List, [], ◌∷◌, ◌++◌, codes, Option, Some, None, Result, Ok, Err, refl, sym, ap, subst, ◌∙◌, inl, inr}
+use Rattle.std.specs.Prelude.{◌↔◌}
 use Rattle.std.specs.List.{AllByRecursion}
 use Rattle.bk_codec.specs.Exact.{IsExact}
 use Rattle.bk_codec.specs.Reading.{◌>>=◌, refused_as}
 use Rattle.bk_codec.specs.Spelling.{IsBytes}
 use Rattle.bk_codec.proofs.Exact.{exact_on_bytes}
-use Rattle.bk_codec.proofs.Steps.{bind_ok, chosen, ok_is, refused_as_ok}
+use Rattle.bk_codec.proofs.Steps.{bind_ok, ok_is, refused_as_ok}
 use Rattle.iff_form.specs.declared.id.Id.{Id}
+use Rattle.iff_form.proofs.Payloads.{payload_at_fits}
 use Rattle.iff_form.specs.Chunk.{PlainChunk}
-use Rattle.iff_form.specs.Form.{IsForm, payload_of}
+use Rattle.iff_form.specs.Form.{AreDistinct, IsForm, payload_of}
 use Rattle.iff_form.specs.Reading.{form_of}
 use Rattle.iff_form.specs.Text.{info_of}
 use Rattle.index_tables.specs.Atoms.{SpellsAtoms}
@@ -26,17 +27,26 @@ use Rattle.side_tables.specs.LiteralText.{literals_text}
 use Rattle.ext_term.specs.Reading.{term_of}
 use Rattle.ext_term.specs.Spelling.{SpellsTermFile}
 use Rattle.ext_term.specs.Text.{term_text}
+use Rattle.beam_module.specs.declared.comparison.Compared.{Compared}
+use Rattle.beam_module.specs.Canonical.{canonical_file}
+use Rattle.beam_module.specs.Comparison.{Compares, comparison}
 use Rattle.beam_module.specs.File.{IsFile}
+use Rattle.beam_module.specs.Name.{IsModuleName, name_of}
+use Rattle.beam_module.specs.Strip.{stripped_file}
 use Rattle.beam_module.specs.Reading.{file_of}
-use Rattle.listing_out.specs.Lines.{listing_of}
+use Rattle.listing_out.specs.Comments.{commented_listing}
 use Rattle.beam_cli.specs.declared.refusal.Refusal.{Refusal}
 use Rattle.beam_cli.specs.declared.refusal.Refusal.TheVariants.{Form, Table, Side, Term as TermRefused}
 use Rattle.beam_cli.specs.declared.shown.Shown.{Shown}
 use Rattle.beam_cli.specs.declared.shown.Shown.TheVariants as shown
-use Rattle.beam_cli.specs.Needs.{file_refusal, found_or, part_at, payload_at}
+use Rattle.beam_cli.specs.Reasons.{module_refusal}
+use Rattle.beam_cli.specs.Needs.{chunks_of, found_or, part_at, payload_at}
 use Rattle.beam_cli.specs.Showing.{table_lines, id_of, shown_text, show_output}
-use Rattle.beam_cli.specs.Answer.{info_output, disasm_output}
-use Rattle.beam_cli.specs.Printing.{HasChunk, PrintsInfo, PrintsListing, PrintsTable, ShowsEntries, ShowsPart, ShowsTable}
+use Rattle.beam_cli.specs.Answer.{canon_output, disasm_output, info_output, strip_output}
+use Rattle.beam_cli.specs.Comparing.{NamedForm, cmp_output, compared, comparison_of, name_at, named_form}
+use Rattle.beam_cli.specs.Files.{NamedFile}
+use Rattle.beam_cli.specs.Made.{NamedRefusal, read_of}
+use Rattle.beam_cli.specs.Printing.{HasChunk, HasNamedForm, IsExactOnTwo, IsNamedForm, PrintsCanonical, PrintsDifference, PrintsInfo, PrintsListing, PrintsStripped, PrintsTable, ShowsEntries, ShowsPart, ShowsTable}
 
 -- ---- an answer is a value exactly where something holds of it
 
@@ -72,23 +82,15 @@ found_ok : (id : Id) (held : Option (List ℕ)) (payload : List ℕ) → found_o
 found_ok id (Some bytes) payload h = ap (λ (b : List ℕ). Some b) (ok_is {E = Refusal} bytes payload h)
 found_ok id None payload h = absurd cc
 
-payload_fits : (id : Id) (chunks : List PlainChunk) (payload : List ℕ) → AllByRecursion (λ c. IsBytes c.payload) chunks → payload_of id chunks ≡ Some payload → IsBytes payload
-payload_fits id [] payload fits h = absurd cc
-payload_fits id (c ∷ chunks) payload fits h =
-    elim (chosen (bytes_eq c.id.0 id.0) (Some c.payload) (payload_of id chunks) (Some payload) h) [
-      | inl here ↦ let same : c.payload ≡ payload = cc in subst IsBytes same fits.0
-      | inr there ↦ payload_fits id chunks payload fits.1 there.1
-    ]
-
 same_part : {A E : Type 0} {read : List ℕ → Result A E} {R : A → List ℕ → Type 0} (why : E → Refusal) (id : List ℕ) → IsExact read R → (chunks : List PlainChunk) → AllByRecursion (λ c. IsBytes c.payload) chunks
     → Same (part_at why read (id_of id) chunks) (HasChunk id R chunks)
 same_part {read = read} {R = R} why id exact chunks fits = record {
   found = λ x h.
       let b = bind_ok (payload_at (id_of id) chunks) (λ payload. refused_as why (read payload)) x h in
       let there = found_ok (id_of id) (payload_of (id_of id) chunks) b.0 b.1 in
-      record { payload = b.0; found = there; spelled = (same_read why exact b.0 (payload_fits (id_of id) chunks b.0 fits there)).found x b.2 };
+      record { payload = b.0; found = there; spelled = (same_read why exact b.0 (payload_at_fits (id_of id) chunks b.0 fits there)).found x b.2 };
   again = λ x has.
-      let read_is : refused_as why (read has.payload) ≡ Ok x = (same_read why exact has.payload (payload_fits (id_of id) chunks has.payload fits has.found)).again x has.spelled in
+      let read_is : refused_as why (read has.payload) ≡ Ok x = (same_read why exact has.payload (payload_at_fits (id_of id) chunks has.payload fits has.found)).again x has.spelled in
       rw (has.found, read_is) refl;
 }
 
@@ -138,5 +140,87 @@ info_printed forms =
 pub disasm_printed : IsExact file_of IsFile → IsExact disasm_output PrintsListing
 disasm_printed files =
     let same : (bytes : List ℕ) → IsBytes bytes → Same (disasm_output bytes) (λ text. PrintsListing text bytes) =
-    λ bytes fits. same_then (same_read file_refusal files bytes fits) (λ value is. same_made listing_of value) in
+    λ bytes fits. same_then (same_read module_refusal files bytes fits) (λ value is. same_made commented_listing value) in
     exact_on_bytes (λ bytes text fits. (same bytes fits).found text) (λ bytes text fits. (same bytes fits).again text)
+
+pub strip_printed : IsExact form_of IsForm → IsExact strip_output PrintsStripped
+strip_printed forms =
+    let same : (bytes : List ℕ) → IsBytes bytes → Same (strip_output bytes) (λ text. PrintsStripped text bytes) =
+    λ bytes fits. same_then (same_read Form forms bytes fits) (λ chunks is. same_made stripped_file chunks) in
+    exact_on_bytes (λ bytes text fits. (same bytes fits).found text) (λ bytes text fits. (same bytes fits).again text)
+
+pub canon_printed : IsExact file_of IsFile → IsExact canon_output PrintsCanonical
+canon_printed files =
+    let same : (bytes : List ℕ) → IsBytes bytes → Same (canon_output bytes) (λ text. PrintsCanonical text bytes) =
+    λ bytes fits. same_then (same_read module_refusal files bytes fits) (λ value is. same_made canonical_file value) in
+    exact_on_bytes (λ bytes text fits. (same bytes fits).found text) (λ bytes text fits. (same bytes fits).again text)
+
+-- ---- two files
+
+either : {A E : Type 0} (r : Result A E) → ((x : A) × (r ≡ Ok x)) ⊎ ((e : E) × (r ≡ Err e))
+either (Ok x) = inl (x, refl)
+either (Err e) = inr (e, refl)
+
+module _ (forms : IsExact form_of IsForm)
+    (payloads : (chunks : List PlainChunk) (bytes : List ℕ) → IsForm chunks bytes → IsBytes bytes → AllByRecursion (λ c. IsBytes c.payload) chunks)
+    (names : (chunks : List PlainChunk) (name : List ℕ) → AllByRecursion (λ c. IsBytes c.payload) chunks → (name_of chunks ≡ Ok name) ↔ IsModuleName name chunks) where
+  same_named : (bytes : List ℕ) → IsBytes bytes → Same (named_form bytes) (λ f. IsNamedForm f bytes)
+  same_named bytes fits = record {
+    found = λ f h.
+        let c = bind_ok (chunks_of bytes) (λ chunks. name_at chunks >>= λ name. Ok (record { chunks = chunks; name = name })) f h in
+        let form = (same_read Form forms bytes fits).found c.0 c.1 in
+        let n = bind_ok (name_at c.0) (λ name. Ok (record { chunks = c.0; name = name })) f c.2 in
+        let name = (names c.0 n.0 (payloads c.0 bytes form fits)).0 (refused_as_ok module_refusal (name_of c.0) n.0 n.1) in
+        subst (λ (g : NamedForm). IsNamedForm g bytes) (ok_is {E = Refusal} (record { chunks = c.0; name = n.0 }) f n.2) (record { form = form; name = name });
+    again = λ f is.
+        let chunks : chunks_of bytes ≡ Ok f.chunks = (same_read Form forms bytes fits).again f.chunks is.form in
+        let name : name_of f.chunks ≡ Ok f.name = (names f.chunks f.name (payloads f.chunks bytes is.form fits)).1 is.name in
+        rw (chunks, name) refl;
+  }
+
+  not_named : (bytes : List ℕ) → IsBytes bytes → (HasNamedForm bytes → ⊥) → (e : Refusal) × (named_form bytes ≡ Err e)
+  not_named bytes fits none =
+      elim (either (named_form bytes)) [
+        | inl some ↦ absurd (none (some.0, (same_named bytes fits).found some.0 some.1))
+        | inr refused ↦ refused
+      ]
+
+  module _ (tells : (a b : List PlainChunk) (a_name b_name : List ℕ) → AreDistinct a → AreDistinct b → Compares a a_name b b_name (comparison a a_name b b_name))
+      (one : (a b : List PlainChunk) (a_name b_name : List ℕ) (x y : Compared) → Compares a a_name b b_name x → Compares a a_name b b_name y → x ≡ y) where
+    -- what is made of two files with names
+    made_of_two : (f g : NamedFile) (a b : NamedForm) → named_form f.bytes ≡ Ok a → named_form g.bytes ≡ Ok b → cmp_output f g ≡ Ok (compared (comparison_of a b))
+    made_of_two f g a b first second = rw (first, second) refl
+
+    tells_of : (a b : NamedForm) (first second : List ℕ) → IsNamedForm a first → IsNamedForm b second → Compares a.chunks a.name b.chunks b.name (comparison_of a b)
+    tells_of a b first second is also = tells a.chunks b.chunks a.name b.name is.form.distinct also.form.distinct
+
+    pub cmp_printed : IsExactOnTwo cmp_output HasNamedForm PrintsDifference
+    cmp_printed = record {
+      accepted = λ f g m fits also. (
+        λ h.
+            let x = bind_ok (read_of f (named_form f.bytes)) (λ a. read_of g (named_form g.bytes) >>= λ b. Ok (compared (comparison_of a b))) m h in
+            let y = bind_ok (read_of g (named_form g.bytes)) (λ b. Ok (compared (comparison_of x.0 b))) m x.2 in
+            let a_is = (same_named f.bytes fits).found x.0 (refused_as_ok (λ e. record { name = f.name; refusal = e }) (named_form f.bytes) x.0 x.1) in
+            let b_is = (same_named g.bytes also).found y.0 (refused_as_ok (λ e. record { name = g.name; refusal = e }) (named_form g.bytes) y.0 y.1) in
+            record {
+              a = x.0;
+              b = y.0;
+              what = comparison_of x.0 y.0;
+              first_is = a_is;
+              second_is = b_is;
+              differs = tells_of x.0 y.0 f.bytes g.bytes a_is b_is;
+              is = sym (ok_is {E = NamedRefusal} (compared (comparison_of x.0 y.0)) m y.2);
+            },
+        λ p.
+            let same : comparison_of p.a p.b ≡ p.what =
+            one p.a.chunks p.b.chunks p.a.name p.b.name (comparison_of p.a p.b) p.what (tells_of p.a p.b f.bytes g.bytes p.first_is p.second_is) p.differs in
+            made_of_two f g p.a p.b ((same_named f.bytes fits).again p.a p.first_is) ((same_named g.bytes also).again p.b p.second_is) ∙ rw (same, p.is) refl,
+      );
+      answered = λ f g fits also a b.
+          (compared (comparison_of a.0 b.0), made_of_two f g a.0 b.0 ((same_named f.bytes fits).again a.0 a.1) ((same_named g.bytes also).again b.0 b.1));
+      first = λ f g fits none. let e = not_named f.bytes fits none in (e.0, rw e.1 refl);
+      second = λ f g fits also a none.
+          let e = not_named g.bytes also none in
+          let first : named_form f.bytes ≡ Ok a.0 = (same_named f.bytes fits).again a.0 a.1 in
+          (e.0, rw (first, e.1) refl);
+    }

@@ -1,16 +1,22 @@
 -- The answer: what the words and the bytes that the named files hold decide.
-use Rattle.std.specs.Prelude.{ℕ, List, [], length, nat_lt, Option, Some, None, option_map, Result, Ok, Err, if◌then◌else◌}
+use Rattle.std.specs.Prelude.{ℕ, List, [], Bool, Option, Some, None, option_map, Result, Ok, Err, if◌then◌else◌}
 use Rattle.bk_codec.specs.Reading.{◌>>=◌}
-use Rattle.bk_port.specs.declared.reading.TheConstants.{MOST_BYTES}
 use Rattle.iff_form.specs.Text.{info_of}
-use Rattle.listing_out.specs.Lines.{listing_of}
+use Rattle.listing_out.specs.Comments.{commented_listing}
+use Rattle.beam_module.specs.Strip.{stripped_file}
+use Rattle.beam_module.specs.Canonical.{canonical_file}
+use Rattle.beam_cli.specs.declared.command.Command.{Command}
+use Rattle.beam_cli.specs.declared.command.Command.TheVariants.{Info, Show, Disasm, Strip, Canon, Cmp}
 use Rattle.beam_cli.specs.declared.refusal.Refusal.{Refusal}
 use Rattle.beam_cli.specs.declared.status.Status.{Status}
-use Rattle.beam_cli.specs.declared.status.Status.TheVariants.{Done, Usage, Grammar, TooLarge}
-use Rattle.beam_cli.specs.Words.{Asked, Info, Show, Disasm, asked_by, name_of}
+use Rattle.beam_cli.specs.declared.status.Status.TheVariants.{Done, Refused, Usage, Grammar, TooLarge}
+use Rattle.beam_cli.specs.Words.{Asked, asked_by}
+use Rattle.beam_cli.specs.Files.{NamedFile, file_at, told, too_large}
 use Rattle.beam_cli.specs.Message.{line_about, usage_line, too_large_line, refusal_text}
 use Rattle.beam_cli.specs.Needs.{chunks_of, value_of_file}
 use Rattle.beam_cli.specs.Showing.{show_output}
+use Rattle.beam_cli.specs.Made.{Made, NamedRefusal, prints}
+use Rattle.beam_cli.specs.Comparing.{cmp_output}
 
 -- what is written to the output, the message, and the status
 pub record Answer : Type 0 where
@@ -18,20 +24,20 @@ pub record Answer : Type 0 where
   pub message : List ℕ
   pub status : Status
 
-abbrev pub made : List ℕ → Answer
-made output = record { output = output; message = []; status = Done }
+-- the status of an output: a check found something, or nothing
+abbrev pub status_when : Bool → Status
+status_when found = if found then Refused else Done
+
+abbrev pub made : Made → Answer
+made m = record { output = m.text; message = []; status = status_when m.found }
 
 abbrev pub stopped : List ℕ → Status → Answer
 stopped message status = record { output = []; message = message; status = status }
 
--- a file that is not what the command needs
-abbrev pub refused : List ℕ → Refusal → Answer
-refused name e = stopped (line_about name (refusal_text e)) Grammar
-
--- the output, or the refusal of the file with this name
-abbrev pub answered : List ℕ → Result (List ℕ) Refusal → Answer
-answered name (Ok output) = made output
-answered name (Err e) = refused name e
+-- the output, or the refusal of a file
+abbrev pub answered : Result Made NamedRefusal → Answer
+answered (Ok m) = made m
+answered (Err r) = stopped (line_about r.name (refusal_text r.refusal)) Grammar
 
 -- the output of `info`
 abbrev pub info_output : List ℕ → Result (List ℕ) Refusal
@@ -39,21 +45,36 @@ info_output bytes = chunks_of bytes >>= λ chunks. Ok (info_of chunks)
 
 -- the output of `disasm`
 abbrev pub disasm_output : List ℕ → Result (List ℕ) Refusal
-disasm_output bytes = value_of_file bytes >>= λ value. Ok (listing_of value)
+disasm_output bytes = value_of_file bytes >>= λ value. Ok (commented_listing value)
 
--- a command on one file, which may have at most so many bytes as are taken
-abbrev pub of_file : (List ℕ → Result (List ℕ) Refusal) → List ℕ → List ℕ → Answer
-of_file output name bytes = if nat_lt MOST_BYTES (length bytes) then stopped (too_large_line name) TooLarge else answered name (output bytes)
+-- the output of `strip`
+abbrev pub strip_output : List ℕ → Result (List ℕ) Refusal
+strip_output bytes = chunks_of bytes >>= λ chunks. Ok (stripped_file chunks)
 
--- the output of a command for the bytes of its file
-abbrev pub output_of : Asked → List ℕ → Result (List ℕ) Refusal
-output_of (Info name) = info_output
-output_of (Show what name) = show_output what
-output_of (Disasm name) = disasm_output
+-- the output of `canon`
+abbrev pub canon_output : List ℕ → Result (List ℕ) Refusal
+canon_output bytes = value_of_file bytes >>= λ value. Ok (canonical_file value)
+
+-- the output of a command for its files, or the first refusal, file by file
+abbrev pub output_of : Command → List NamedFile → Result Made NamedRefusal
+output_of Info files = prints info_output (file_at files 0)
+output_of (Show what) files = prints (show_output what) (file_at files 0)
+output_of Disasm files = prints disasm_output (file_at files 0)
+output_of Strip files = prints strip_output (file_at files 0)
+output_of Canon files = prints canon_output (file_at files 0)
+output_of Cmp files = cmp_output (file_at files 0) (file_at files 1)
+
+-- the first file that has too many bytes comes before every refusal
+abbrev pub unless_too_large : Option (List ℕ) → Answer → Answer
+unless_too_large None answer = answer
+unless_too_large (Some name) answer = stopped (too_large_line name) TooLarge
+
+abbrev pub answer_for : Command → List NamedFile → Answer
+answer_for command files = unless_too_large (too_large files) (answered (output_of command files))
 
 -- none where what a named file holds is not told
 abbrev pub asked_answer : (List ℕ → Option (List ℕ)) → Asked → Option Answer
-asked_answer holds asked = option_map (of_file (output_of asked) (name_of asked)) (holds (name_of asked))
+asked_answer holds asked = option_map (answer_for asked.command) (told holds asked.names)
 
 abbrev pub answer_or_usage : (List ℕ → Option (List ℕ)) → Option Asked → Option Answer
 answer_or_usage holds None = Some (stopped usage_line Usage)

@@ -1,10 +1,13 @@
 pub mod ExitStatus
 pub mod Words
 pub mod Asking
+pub mod Files
 pub mod Message
 pub mod Reasons
 pub mod Needs
+pub mod Made
 pub mod Showing
+pub mod Comparing
 pub mod Answer
 pub mod Outcome
 pub mod Stopping

@@ -5,12 +5,11 @@ use Rattle.iff_form.specs.declared.id.Id.{Id}
 use Rattle.iff_form.specs.Chunk.{PlainChunk}
 use Rattle.iff_form.specs.Form.{payload_of}
 use Rattle.iff_form.specs.Reading.{form_of}
-use Rattle.beam_module.specs.declared.refusal.ModuleRefusal.{ModuleRefusal}
-use Rattle.beam_module.specs.declared.refusal.ModuleRefusal.TheVariants as modules
 use Rattle.beam_module.specs.File.{FileChunk}
 use Rattle.beam_module.specs.Reading.{file_of}
 use Rattle.beam_cli.specs.declared.refusal.Refusal.{Refusal}
-use Rattle.beam_cli.specs.declared.refusal.Refusal.TheVariants.{Form, Missing, Code, NoMemory}
+use Rattle.beam_cli.specs.declared.refusal.Refusal.TheVariants.{Form, Missing}
+use Rattle.beam_cli.specs.Reasons.{module_refusal}
 
 -- the chunks of the form that the file is
 abbrev pub chunks_of : List ℕ → Result (List PlainChunk) Refusal
@@ -28,12 +27,6 @@ payload_at id chunks = found_or id (payload_of id chunks)
 abbrev pub part_at : {A E : Type 0} → (E → Refusal) → (List ℕ → Result A E) → Id → List PlainChunk → Result A Refusal
 part_at why read id chunks = payload_at id chunks >>= λ payload. refused_as why (read payload)
 
--- a refusal of the value of a file as one of the file
-abbrev pub file_refusal : ModuleRefusal → Refusal
-file_refusal (modules.Form e) = Form e
-file_refusal (modules.Code e) = Code e
-file_refusal modules.NoMemory = NoMemory
-
 -- the value of the file: its form, and the code where there is a chunk for it
 abbrev pub value_of_file : List ℕ → Result (List FileChunk) Refusal
-value_of_file bytes = refused_as file_refusal (file_of bytes)
+value_of_file bytes = refused_as module_refusal (file_of bytes)

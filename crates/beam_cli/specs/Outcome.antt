@@ -16,9 +16,8 @@ use Rattle.beam_cli.specs.Message.{line_about, refusal_text, usage_line, read_fa
 abbrev pub HasOutput : Answer → Type 0
 HasOutput a = (a.status ≡ Done) ⊎ (a.status ≡ Refused)
 
--- the status is the answer's; no command judges yet, an output that couldn't be written was there to be written, and read faults and want of memory are no part of an answer
+-- the status is the answer's; an output that couldn't be written was there to be written, and read faults and want of memory are no part of an answer
 abbrev pub IsStatus : Status → Option Answer → Type 0
-IsStatus Refused answer = ⊥
 IsStatus ReadFault answer = ⊤
 IsStatus WriteFault answer = IfSome answer HasOutput
 IsStatus NoMemory answer = ⊤

@@ -1,5 +1,6 @@
 -- What a command prints of a file, by the grammars alone, with no word of how a file is read.
-use Rattle.std.specs.Prelude.{◌≡◌, ℕ, List, ◌++◌, codes, Some}
+use Rattle.std.specs.Prelude.{◌≡◌, ◌↔◌, ℕ, List, ◌++◌, codes, Some, Result, Ok, Err}
+use Rattle.bk_codec.specs.Spelling.{IsBytes}
 use Rattle.iff_form.specs.Chunk.{PlainChunk}
 use Rattle.iff_form.specs.Form.{IsForm, payload_of}
 use Rattle.iff_form.specs.Text.{info_of}
@@ -13,9 +14,18 @@ use Rattle.side_tables.specs.LineText.{lines_text}
 use Rattle.ext_term.specs.Spelling.{SpellsTermFile}
 use Rattle.ext_term.specs.Text.{term_text}
 use Rattle.beam_module.specs.File.{FileChunk, IsFile}
-use Rattle.listing_out.specs.Lines.{listing_of}
+use Rattle.beam_module.specs.Canonical.{canonical_file}
+use Rattle.beam_module.specs.Strip.{stripped_file}
+use Rattle.beam_module.specs.Name.{IsModuleName}
+use Rattle.beam_module.specs.Comparison.{Compares}
+use Rattle.beam_module.specs.declared.comparison.Compared.{Compared}
+use Rattle.listing_out.specs.Comments.{commented_listing}
 use Rattle.beam_cli.specs.declared.shown.Shown.{Shown}
 use Rattle.beam_cli.specs.declared.shown.Shown.TheVariants as shown
+use Rattle.beam_cli.specs.declared.refusal.Refusal.{Refusal}
+use Rattle.beam_cli.specs.Files.{NamedFile}
+use Rattle.beam_cli.specs.Made.{Made, NamedRefusal}
+use Rattle.beam_cli.specs.Comparing.{NamedForm, compared}
 use Rattle.beam_cli.specs.Showing.{id_of}
 
 -- the chunk with this id is there, and its payload is spelled for the value
@@ -59,4 +69,39 @@ PrintsTable what text bytes = (chunks : List PlainChunk) × IsForm chunks bytes 
 
 -- `disasm` prints the listing of the file's value
 abbrev pub PrintsListing : List ℕ → List ℕ → Type 0
-PrintsListing text bytes = (value : List FileChunk) × IsFile value bytes × (text ≡ listing_of value)
+PrintsListing text bytes = (value : List FileChunk) × IsFile value bytes × (text ≡ commented_listing value)
+
+-- `strip` prints the stripped file of the form that the file is
+abbrev pub PrintsStripped : List ℕ → List ℕ → Type 0
+PrintsStripped text bytes = (chunks : List PlainChunk) × IsForm chunks bytes × (text ≡ stripped_file chunks)
+
+-- `canon` prints the canonical file of the file's value
+abbrev pub PrintsCanonical : List ℕ → List ℕ → Type 0
+PrintsCanonical text bytes = (value : List FileChunk) × IsFile value bytes × (text ≡ canonical_file value)
+
+-- ---- two files
+
+-- the file is a form, and its module has a name
+pub record IsNamedForm (f : NamedForm) (bytes : List ℕ) : Type 0 where
+  pub form : IsForm f.chunks bytes
+  pub name : IsModuleName f.name f.chunks
+
+abbrev pub HasNamedForm : List ℕ → Type 0
+HasNamedForm bytes = (f : NamedForm) × IsNamedForm f bytes
+
+-- `cmp` prints what differs between the modules of two files, and finds something where anything does
+pub record PrintsDifference (m : Made) (first second : List ℕ) : Type 0 where
+  pub a : NamedForm
+  pub b : NamedForm
+  pub what : Compared
+  pub first_is : IsNamedForm a first
+  pub second_is : IsNamedForm b second
+  pub differs : Compares a.chunks a.name b.chunks b.name what
+  pub is : m ≡ compared what
+
+-- a command makes of two files exactly what the relation says; where a file is not what the command needs it refuses it, the first file before the second; and it makes something of all others
+pub record IsExactOnTwo (output : NamedFile → NamedFile → Result Made NamedRefusal) (Needed : List ℕ → Type 0) (R : Made → List ℕ → List ℕ → Type 0) : Type 0 where
+  pub accepted : (f g : NamedFile) (m : Made) → IsBytes f.bytes → IsBytes g.bytes → (output f g ≡ Ok m) ↔ R m f.bytes g.bytes
+  pub answered : (f g : NamedFile) → IsBytes f.bytes → IsBytes g.bytes → Needed f.bytes → Needed g.bytes → (m : Made) × (output f g ≡ Ok m)
+  pub first : (f g : NamedFile) → IsBytes f.bytes → (Needed f.bytes → ⊥) → (e : Refusal) × (output f g ≡ Err (record { name = f.name; refusal = e }))
+  pub second : (f g : NamedFile) → IsBytes f.bytes → IsBytes g.bytes → Needed f.bytes → (Needed g.bytes → ⊥) → (e : Refusal) × (output f g ≡ Err (record { name = g.name; refusal = e }))

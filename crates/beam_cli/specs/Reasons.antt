@@ -12,8 +12,11 @@ use Rattle.side_tables.specs.declared.refusal.SideRefusal.{SideRefusal}
 use Rattle.side_tables.specs.declared.refusal.SideRefusal.TheVariants as sides
 use Rattle.ext_term.specs.declared.refusal.TermRefusal.{TermRefusal}
 use Rattle.ext_term.specs.declared.refusal.TermRefusal.TheVariants as terms
+use Rattle.beam_module.specs.declared.refusal.ModuleRefusal.{ModuleRefusal}
+use Rattle.beam_module.specs.declared.refusal.ModuleRefusal.TheVariants as modules
+use Rattle.beam_module.specs.declared.refusal.TableWhy.TheVariants as whys
 use Rattle.beam_cli.specs.declared.refusal.Refusal.{Refusal}
-use Rattle.beam_cli.specs.declared.refusal.Refusal.TheVariants.{Form, Table, Side, Term, Code, NoMemory}
+use Rattle.beam_cli.specs.declared.refusal.Refusal.TheVariants.{Form, Missing, Table, Side, Term, Code, NoMemory}
 
 abbrev pub IsReason : Refusal → Type 0
 IsReason (Form forms.NoMemory) = ⊥
@@ -51,3 +54,11 @@ side_refusal id e = Side id e
 abbrev pub term_refusal : Id → TermRefusal → Refusal
 term_refusal id terms.NoMemory = NoMemory
 term_refusal id e = Term id e
+
+abbrev pub module_refusal : ModuleRefusal → Refusal
+module_refusal (modules.Form e) = form_refusal e
+module_refusal (modules.Missing id) = Missing id
+module_refusal (modules.Table id (whys.Index e)) = table_refusal id e
+module_refusal (modules.Table id (whys.Side e)) = side_refusal id e
+module_refusal (modules.Code e) = code_refusal e
+module_refusal modules.NoMemory = NoMemory

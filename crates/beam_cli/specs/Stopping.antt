@@ -1,20 +1,14 @@
 -- Why a command stopped before its output: the status, the message and the cause.
-use Rattle.std.specs.Prelude.{◌≡◌, ◌⊎◌, ◌<◌, ℕ, List, length, Option, IfSome, Any, ⊤}
-use Rattle.std.specs.Borrow.{Bor}
-use Rattle.beam_cli.specs.declared.refusal.Refusal.{Refusal}
-use Rattle.beam_cli.specs.declared.refusal.Refusal.TheVariants as refusals
+use Rattle.std.specs.Prelude.{◌≡◌, ◌<◌, ℕ, List, length, Option, IfSome, Any, ⊤}
 use Rattle.beam_cli.specs.declared.status.Status.{Status}
 use Rattle.beam_cli.specs.declared.status.Status.TheVariants as statuses
 use Rattle.beam_cli.specs.declared.stop.Stop.{Stop}
 use Rattle.beam_cli.specs.declared.stop.Stop.TheVariants.{Grammar, ReadFault, TooLarge, NoMemory}
 use Rattle.bk_port.specs.declared.reading.TheConstants.{MOST_BYTES}
 use Rattle.beam_cli.specs.Answer.{Answer, stopped}
+use Rattle.beam_cli.specs.Files.{IsFirst, IsFirstTooLarge}
 use Rattle.beam_cli.specs.Reasons.{IsReason}
 use Rattle.beam_cli.specs.Message.{line_about, read_fault_line, too_large_line, no_memory_line, refusal_text}
-
--- what stops a command on the file with this name: want of memory, or the reason to refuse the file
-abbrev pub IsStopFor : Bor (List ℕ) → Refusal → Stop → Type 0
-IsStopFor name e stop = ((e ≡ refusals.NoMemory) × (stop ≡ NoMemory)) ⊎ (IsReason e × (stop ≡ Grammar name e))
 
 abbrev pub status_of : Stop → Status
 status_of (Grammar name e) = statuses.Grammar
@@ -41,9 +35,21 @@ abbrev pub IsTooLarge : Stop → Type 0
 IsTooLarge (TooLarge name) = ⊤
 IsTooLarge stop = ⊥
 
+-- a file could not be read
+abbrev pub IsReadFault : Stop → Type 0
+IsReadFault (ReadFault name) = ⊤
+IsReadFault stop = ⊥
+
 -- why a file with this name, which may hold these bytes, could not be loaded
 abbrev pub HasLoadReason : Option (List ℕ) → Type 0 → List ℕ → Stop → Type 0
 HasLoadReason held Faulty name (Grammar other e) = ⊥
 HasLoadReason held Faulty name (ReadFault other) = (other.now ≡ name) × Faulty
 HasLoadReason held Faulty name (TooLarge other) = (other.now ≡ name) × IfSome held (λ all. MOST_BYTES < length all)
 HasLoadReason held Faulty name NoMemory = ⊤
+
+-- why the files with these names could not be loaded: the first that could not was faulty, or is too large
+abbrev pub HasLoadReasons : (List ℕ → Option (List ℕ)) → (List ℕ → Type 0) → List (List ℕ) → Stop → Type 0
+HasLoadReasons holds Faulty names (Grammar other e) = ⊥
+HasLoadReasons holds Faulty names (ReadFault other) = IsFirst holds (λ n. (n ≡ other.now) × Faulty n) names
+HasLoadReasons holds Faulty names (TooLarge other) = IsFirstTooLarge holds names other.now
+HasLoadReasons holds Faulty names NoMemory = ⊤

@@ -1,13 +1,15 @@
 -- The command grammar: which words ask for something, and for what.
-use Rattle.std.specs.Prelude.{ℕ, Bool, false, not, ◌==◌, ◌&&◌, ◌||◌, List, [], ◌∷◌, length, codes, bytes_eq, Option, Some, None, if◌then◌else◌}
+use Rattle.std.specs.Prelude.{ℕ, Bool, false, not, ◌==◌, ◌&&◌, ◌||◌, List, [], ◌∷◌, length, codes, bytes_eq, Option, Some, None, option_map, if◌then◌else◌}
+use Rattle.std.specs.List.{list_all}
+use Rattle.beam_cli.specs.declared.command.Command.{Command}
+use Rattle.beam_cli.specs.declared.command.Command.TheVariants.{Info, Show, Disasm, Strip, Canon, Cmp}
 use Rattle.beam_cli.specs.declared.shown.Shown.{Shown}
 use Rattle.beam_cli.specs.declared.shown.Shown.TheVariants.{Atoms, Imports, Exports, Locals, Funs, Literals, Lines, Attributes, Compile}
 
--- what a command asks for, of the files with these names
-pub data Asked : Type 0 where
-  Info : (name : List ℕ) → Asked
-  Show : (what : Shown) (name : List ℕ) → Asked
-  Disasm : (name : List ℕ) → Asked
+-- what words ask for: a command, on the files with these names in the order of the words
+pub record Asked : Type 0 where
+  pub command : Command
+  pub names : List (List ℕ)
 
 -- a word that names a file: `-`, or a word that is not empty and does not begin with `-`
 abbrev pub is_name : List ℕ → Bool
@@ -33,30 +35,42 @@ shown_by word =
     else if bytes_eq word (codes "compile") then Some Compile
     else names_by word
 
-abbrev pub show_asked : Option Shown → List ℕ → Option Asked
-show_asked None name = None
-show_asked (Some what) name = Some (Show what name)
-
 -- a command on one file and nothing else
-abbrev pub of_file_asked : List ℕ → List ℕ → Option Asked
-of_file_asked word name =
-    if bytes_eq word (codes "info") then Some (Info name)
-    else if bytes_eq word (codes "disasm") then Some (Disasm name)
+unfoldable pub command_by : List ℕ → Option Command
+command_by word =
+    if bytes_eq word (codes "info") then Some Info
+    else if bytes_eq word (codes "disasm") then Some Disasm
+    else if bytes_eq word (codes "strip") then Some Strip
+    else if bytes_eq word (codes "canon") then Some Canon
+    else None
+
+-- a command on files, where each of the words names one
+abbrev pub on_files : List (List ℕ) → Option Command → Option Asked
+on_files names command = if list_all is_name names then option_map (λ c. record { command = c; names = names }) command else None
+
+-- the word that names standard input
+abbrev pub is_input : List ℕ → Bool
+is_input word = bytes_eq word (codes "-")
+
+-- a command of three words; standard input can't be read twice
+unfoldable pub asked_by_three : List ℕ → List ℕ → List ℕ → Option Asked
+asked_by_three word first second =
+    if bytes_eq word (codes "show") then on_files (second ∷ []) (option_map Show (shown_by first))
+    else if bytes_eq word (codes "cmp") && not (is_input first && is_input second) then on_files (first ∷ second ∷ []) (Some Cmp)
     else None
 
 -- what the words ask for; none where they are not in the grammar
 abbrev pub asked_by : List (List ℕ) → Option Asked
-asked_by (word ∷ name ∷ []) = if is_name name then of_file_asked word name else None
-asked_by (word ∷ what ∷ name ∷ []) = if bytes_eq word (codes "show") && is_name name then show_asked (shown_by what) name else None
+asked_by (word ∷ name ∷ []) = on_files (name ∷ []) (command_by word)
+asked_by (word ∷ first ∷ second ∷ []) = asked_by_three word first second
 asked_by words = None
 
--- the name of the file that a command asks for
-abbrev pub name_of : Asked → List ℕ
-name_of (Info name) = name
-name_of (Show what name) = name
-name_of (Disasm name) = name
+-- how many files a command reads
+abbrev pub file_count : Command → ℕ
+file_count Cmp = 2
+file_count command = 1
 
 -- the names of the files, in the order of the words
 abbrev pub named : Option Asked → List (List ℕ)
 named None = []
-named (Some asked) = name_of asked ∷ []
+named (Some asked) = asked.names

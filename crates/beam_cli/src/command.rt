@@ -1,34 +1,35 @@
 //! The words of the command line.
 
-ghost use Rattle.std.specs.Prelude.{◌≡◌, [], ◌∷◌, option_map};
-ghost use Rattle.beam_cli.specs.Words.{asked_by, is_name, names_by, shown_by};
+ghost use Rattle.std.specs.Prelude.{◌≡◌, ◌<◌, [], ◌∷◌, length, IfSome, option_map};
+ghost use Rattle.std.specs.List.{list_all};
+ghost use Rattle.beam_cli.specs.Words.{asked_by, asked_by_three, command_by, file_count, is_input, is_name, names_by, on_files, shown_by};
 ghost use Rattle.beam_cli.specs.Asking.{asked};
 
 use crate::shown::Shown;
 use bk_base::{Text, WordList};
 
-/// What is to be done, with the names of the files.
-#[derive(Clone, Copy, Debug)]
-pub enum Command<'a> {
+/// What is to be done with files.
+#[derive(Clone, Copy, Debug, PartialEq, Eq)]
+pub enum Command {
     /// Tells the size of a form, and the ids and sizes of its chunks.
-    Info(&'a Text),
+    Info,
     /// Shows one table.
-    Show(Shown, &'a Text),
+    Show(Shown),
     /// Lists the chunks, the code as instructions.
-    Disasm(&'a Text),
+    Disasm,
+    /// Writes the file without the chunks that a running node does not want.
+    Strip,
+    /// Writes the canonical file of the file's value.
+    Canon,
+    /// Tells what differs between two modules.
+    Cmp,
 }
 
-impl<'a> Command<'a> {
-    ghost use Rattle.beam_cli.specs.Words.{name_of};
-
-    /// The name of the file.
-    pub fn name(self) -> &'a Text
-        ensures { result.now ≡ name_of (asked self.entry) }
-    {
-        match self {
-            Command::Info(name) | Command::Show(_, name) | Command::Disasm(name) => name,
-        }
-    }
+/// A command, on the files with these names in the order of the words.
+#[derive(Clone, Copy, Debug)]
+pub struct Request<'a> {
+    pub command: Command,
+    pub names: &'a [Text],
 }
 
 // Whether a word names a file.
@@ -81,44 +82,72 @@ fn shown_by(word: &Text) -> Option<Shown>
     }
 }
 
-// A command of two words.
-fn of_two<'a>(word: &Text, name: &'a Text) -> Option<Command<'a>>
-    ensures { option_map asked result ≡ asked_by (word.now ∷ name.now ∷ []) }
+// The command on one file that a word names.
+#[tactic(auto, unfolding(crate::specs::Words::command_by))]
+fn command_by(word: &Text) -> Option<Command>
+    ensures named { result ≡ command_by word.now }
+    ensures files { IfSome result (λ command. file_count command ≡ 1) }
 {
-    if !names_file(name) {
-        return None;
-    }
     let word = word.as_bytes();
     if word == b"info".as_slice() {
-        Some(Command::Info(name))
+        Some(Command::Info)
     } else if word == b"disasm".as_slice() {
-        Some(Command::Disasm(name))
+        Some(Command::Disasm)
+    } else if word == b"strip".as_slice() {
+        Some(Command::Strip)
+    } else if word == b"canon".as_slice() {
+        Some(Command::Canon)
     } else {
         None
     }
 }
 
-// A command of three words.
-fn of_three<'a>(word: &Text, what: &Text, name: &'a Text) -> Option<Command<'a>>
-    ensures { option_map asked result ≡ asked_by (word.now ∷ what.now ∷ name.now ∷ []) }
+// A command on files, where each of the words names one.
+fn on_files(names: &[Text], command: Option<Command>) -> Option<Request<'_>>
+    requires { IfSome command (λ command. length names.now ≡ file_count command) }
+    ensures asked { option_map asked result ≡ on_files names.now command }
+    ensures files { IfSome result (λ request. length request.names.now ≡ file_count request.command) }
 {
-    if word.as_bytes() != b"show".as_slice() || !names_file(name) {
+    let command = command?;
+    if !names.iter().all(names_file) {
         return None;
     }
-    shown_by(what).map(|what| Command::Show(what, name))
+    Some(Request { command, names })
 }
 
-/// The command that the words are. None exactly where they are not in the command grammar. It takes
-/// no memory.
-pub fn command_from(words: &WordList) -> Option<Command<'_>>
-    ensures { option_map asked result ≡ asked_by words.now }
+// Whether a word names standard input.
+fn is_input(word: &Text) -> bool
+    ensures { result ≡ is_input word.now }
 {
-    if words.len() > 3 {
-        return None;
+    word.as_bytes() == b"-".as_slice()
+}
+
+// A command of three words, of which the last two are these.
+#[tactic(auto, unfolding(crate::specs::Words::asked_by_three))]
+fn of_three<'a>(word: &Text, first: &Text, second: &Text, names: &'a [Text]) -> Option<Request<'a>>
+    requires { names.now ≡ first.now ∷ second.now ∷ [] }
+    ensures asked { option_map asked result ≡ asked_by_three word.now first.now second.now }
+    ensures files { IfSome result (λ request. length request.names.now ≡ file_count request.command) }
+{
+    let word = word.as_bytes();
+    if word == b"show".as_slice() {
+        return on_files(&names[1..], shown_by(first).map(Command::Show));
     }
-    match (words.get(0), words.get(1), words.get(2)) {
-        (Some(word), Some(name), None) => of_two(word, name),
-        (Some(word), Some(what), Some(name)) => of_three(word, what, name),
+    if word == b"cmp".as_slice() && !(is_input(first) && is_input(second)) {
+        return on_files(names, Some(Command::Cmp));
+    }
+    None
+}
+
+/// What the words ask for. None exactly where they are not in the command grammar. It takes no memory.
+pub fn request_from(words: &WordList) -> Option<Request<'_>>
+    ensures asked { option_map asked result ≡ asked_by words.now }
+    ensures files { IfSome result (λ request. length request.names.now ≡ file_count request.command) }
+{
+    let words = words.as_slice();
+    match words {
+        [word, _] => on_files(&words[1..], command_by(word)),
+        [word, first, second] => of_three(word, first, second, &words[1..]),
         _ => None,
     }
 }

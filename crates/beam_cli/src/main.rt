@@ -4,9 +4,12 @@
 ghost use Rattle.std.specs.Prelude.{◌≡◌, [], ◌∷◌, IfOk};
 
 mod command;
+mod comparing;
 mod laws;
+mod loading;
 mod making;
 mod needs;
+mod output;
 mod refusal;
 mod running;
 mod saying;
@@ -15,8 +18,10 @@ mod shown;
 mod status;
 mod stop;
 
-pub use crate::command::{Command, command_from};
-pub use crate::laws::{disasm_is_exact, info_is_exact, show_is_exact};
+pub use crate::command::{Command, Request, request_from};
+pub use crate::laws::{
+    canon_is_exact, cmp_is_exact, disasm_is_exact, info_is_exact, show_is_exact, strip_is_exact,
+};
 pub use crate::refusal::Refusal;
 pub use crate::running::run;
 pub use crate::shown::Shown;
@@ -31,7 +36,11 @@ use std::process::ExitCode;
 use std::rt::Env;
 
 #[cfg(test)]
+mod module_payloads;
+#[cfg(test)]
 mod tests;
+#[cfg(test)]
+mod writing_tests;
 
 // A list of the one empty word, which is in no place of the command grammar.
 fn empty_word(alloc: Global) -> Result<WordList, NoMemory>

@@ -1,13 +1,16 @@
 //! What commands need of a file.
 
-ghost use Rattle.std.specs.Prelude.{◌≡◌, IfErr};
+ghost use Rattle.std.specs.Prelude.{◌≡◌, IfOk, IfErr};
 ghost use Rattle.bk_codec.specs.Reading.{GivesAll};
+ghost use Rattle.beam_module.specs.Canonical.{IsWritable};
+ghost use Rattle.beam_cli.specs.Comparing.{name_at};
 ghost use Rattle.beam_cli.specs.Needs.{chunks_of, payload_at, value_of_file};
 ghost use Rattle.beam_cli.specs.Reasons.{IsRefusal};
 ghost use Rattle.beam_cli.specs.Showing.{atoms_at};
 
 use crate::refusal::Refusal;
-use beam_module::{FileVal, ModuleRefusal, read_file};
+use beam_module::{FileVal, module_name, read_file};
+use bk_base::Text;
 use iff_form::{Form, Id, read_form};
 use index_tables::{Atoms, read_atoms};
 use std::alloc::Global;
@@ -44,15 +47,25 @@ pub fn atoms_of(alloc: Global, form: &Form<'_>) -> Result<Atoms, Refusal>
     }
 }
 
-/// The value of the file that the bytes are.
+/// The value of the file that the bytes are, which has a canonical file.
 pub fn value_of_file(alloc: Global, bytes: &[u8]) -> Result<FileVal, Refusal>
     ensures value { GivesAll Refusal.NoMemory (λ v. v) result (value_of_file bytes.now) }
+    ensures writable { IfOk result IsWritable }
     ensures kind { IfErr result IsRefusal }
 {
     match read_file(alloc, bytes) {
         Ok(value) => Ok(value),
-        Err(ModuleRefusal::NoMemory) => Err(Refusal::NoMemory),
-        Err(ModuleRefusal::Form(refusal)) => Err(Refusal::of_form(refusal)),
-        Err(ModuleRefusal::Code(refusal)) => Err(Refusal::of_code(refusal)),
+        Err(refusal) => Err(Refusal::of_module(refusal)),
+    }
+}
+
+/// The name of the module.
+pub fn name_of(alloc: Global, form: &Form<'_>) -> Result<Text, Refusal>
+    ensures name { GivesAll Refusal.NoMemory (λ name. name) result (name_at form.now) }
+    ensures kind { IfErr result IsRefusal }
+{
+    match module_name(alloc, form) {
+        Ok(name) => Ok(name),
+        Err(refusal) => Err(Refusal::of_module(refusal)),
     }
 }

@@ -3,6 +3,7 @@
 ghost use Rattle.std.specs.Prelude.{◌≡◌};
 ghost use Rattle.beam_cli.specs.declared.refusal.Refusal.TheVariants as refusals;
 
+use beam_module::{ModuleRefusal, TableWhy};
 use bk_base::NoMemory;
 use code_chunk::CodeRefusal;
 use compact_term::OperandRefusal;
@@ -32,7 +33,7 @@ pub enum Refusal {
 }
 
 impl Refusal {
-    ghost use Rattle.beam_cli.specs.Reasons.{IsRefusal, code_refusal, form_refusal, side_refusal, table_refusal, term_refusal};
+    ghost use Rattle.beam_cli.specs.Reasons.{IsRefusal, code_refusal, form_refusal, module_refusal, side_refusal, table_refusal, term_refusal};
 
     /// A refusal of the form.
     pub(crate) fn of_form(refusal: FormRefusal) -> Refusal
@@ -42,6 +43,27 @@ impl Refusal {
         match refusal {
             FormRefusal::NoMemory => Refusal::NoMemory,
             refusal => Refusal::Form(refusal),
+        }
+    }
+
+    /// A refusal of the value of a file, or of its module.
+    pub(crate) fn of_module(refusal: ModuleRefusal) -> Refusal
+        ensures as_stated { result ≡ module_refusal refusal }
+        ensures kind { IsRefusal result }
+    {
+        match refusal {
+            ModuleRefusal::Form(refusal) => Refusal::of_form(refusal),
+            ModuleRefusal::Missing { id } => Refusal::Missing(id),
+            ModuleRefusal::Table {
+                id,
+                why: TableWhy::Index(refusal),
+            } => Refusal::of_table(id, refusal),
+            ModuleRefusal::Table {
+                id,
+                why: TableWhy::Side(refusal),
+            } => Refusal::of_side(id, refusal),
+            ModuleRefusal::Code(refusal) => Refusal::of_code(refusal),
+            ModuleRefusal::NoMemory => Refusal::NoMemory,
         }
     }
 

@@ -6,9 +6,10 @@ ghost use Rattle.bk_port.specs.Reading.{HasReadAtMost};
 ghost use Rattle.bk_port.specs.declared.reading.TheConstants.{MOST_BYTES};
 ghost use Rattle.beam_cli.specs.Words.{asked_by, named};
 ghost use Rattle.beam_cli.specs.Answer.{answer};
+ghost use Rattle.beam_cli.specs.Files.{IsFirst};
 ghost use Rattle.beam_cli.specs.Outcome.{IsStatus, IsOutput, IsAnswered, IsMessage, IsSaid, SomeRose, SomeLeft};
 
-use crate::command::command_from;
+use crate::command::request_from;
 use crate::making::make;
 use crate::saying::{say_stop, say_usage, say_write_fault};
 use crate::status::Status;
@@ -37,7 +38,8 @@ pub fn run<H: Host, O: Sink, E: Sink>(
     // Each other status has its cause.
     ensures usage { (result ≡ Status.Usage) ↔ (asked_by words.now ≡ None) }
     ensures usage_host { result ≡ Status.Usage → host.new ≡ host.old }
-    ensures read_fault { result ≡ Status.ReadFault → SomeRose (H.faults host.old) (H.faults host.new) (named (asked_by words.now)) }
+    ensures read_fault { result ≡ Status.ReadFault
+        → IsFirst (H.holds host.old) (λ name. Rose (H.faults host.old name) (H.faults host.new name)) (named (asked_by words.now)) }
     ensures write_fault { result ≡ Status.WriteFault → Rose (O.faults out.old) (O.faults out.new) }
     ensures too_large { result ≡ Status.TooLarge → H.count host.new ≡ MOST_BYTES + 1 }
     ensures not_too_large { (result ≡ Status.TooLarge) ⊎ HasReadAtMost MOST_BYTES (H.count host.old) (H.count host.new) }
@@ -49,13 +51,13 @@ pub fn run<H: Host, O: Sink, E: Sink>(
     // What is left of the host.
     ensures left { SomeLeft (H.holds host.old) (H.left host.old) (H.left host.new) (named (asked_by words.now)) }
 {
-    let Some(command) = command_from(words) else {
+    let Some(request) = request_from(words) else {
         say_usage(err);
         return Status::Usage;
     };
-    match make(alloc, host, command) {
-        Ok(text) => match emit(out, text.as_slice()) {
-            Ok(()) => Status::Done,
+    match make(alloc, host, request) {
+        Ok(output) => match emit(out, output.text.as_slice()) {
+            Ok(()) => output.status(),
             Err(_) => {
                 say_write_fault(err);
                 Status::WriteFault

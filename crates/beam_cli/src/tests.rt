@@ -1,4 +1,5 @@
 use super::*;
+use crate::module_payloads::{ATOMS, ATTRIBUTES, EXPORTS, IMPORTS, LINES};
 use bk_base::Bytes;
 use bk_port::{FileList, Host, MemHost, MemSink, NumberList, ScriptHost, ScriptSink, Sink};
 use std::process::Abort;
@@ -7,17 +8,17 @@ use std::test::Fail;
 const USAGE: &str =
     "beamkit: usage: info F, show WHAT F, disasm F, asm F, strip F, canon F, cmp F G, validate F, gen N\n";
 
-const SAMPLE: &[u8] = b"FOR1\0\0\0\x3cBEAM\
+pub(crate) const SAMPLE: &[u8] = b"FOR1\0\0\0\x3cBEAM\
 AtU8\0\0\0\x06\0\0\0\x01\x01m\0\0\
 Code\0\0\0\x15\0\0\0\x10\0\0\0\0\0\0\0\x03\0\0\0\x01\0\0\0\0\x03\0\0\0\
 StrT\0\0\0\0";
 
 // What a call answered and wrote.
 #[derive(Drop)]
-struct Outcome {
-    status: Status,
-    out: MemSink,
-    err: MemSink,
+pub(crate) struct Outcome {
+    pub(crate) status: Status,
+    pub(crate) out: MemSink,
+    pub(crate) err: MemSink,
 }
 
 // A list of these words.
@@ -29,13 +30,15 @@ fn words_of(alloc: Global, words: &[&str]) -> Result<WordList, Fail> {
     Ok(list)
 }
 
-// The one file `F` of these bytes.
-fn files_of(alloc: Global, file: &[u8]) -> Result<FileList, Fail> {
-    let mut bytes = Bytes::new(alloc);
-    bytes.extend(file)?;
-    let mut files = FileList::new(alloc);
-    files.push(Text::from_bytes(alloc, b"F")?, bytes)?;
-    Ok(files)
+// The files of these bytes, named `F`, `G` and so on.
+fn files_of(alloc: Global, files: &[&[u8]]) -> Result<FileList, Fail> {
+    let mut list = FileList::new(alloc);
+    for (name, file) in (b'F'..=b'Z').zip(files) {
+        let mut bytes = Bytes::new(alloc);
+        bytes.extend(file)?;
+        list.push(Text::from_bytes(alloc, &[name])?, bytes)?;
+    }
+    Ok(list)
 }
 
 // Calls the program over this host and this output, and gives the status and the message.
@@ -51,12 +54,27 @@ fn call_over<H: Host, O: Sink>(
     Ok((status, err))
 }
 
-// Calls the program with these words and the file `F`, with room for so many bytes of output.
-fn call(alloc: Global, words: &[&str], file: &[u8], room: usize) -> Result<Outcome, Fail> {
-    let mut host = MemHost::new(files_of(alloc, file)?);
+// Calls the program with these words and files, with room for so many bytes of output.
+pub(crate) fn call_on(
+    alloc: Global,
+    words: &[&str],
+    files: &[&[u8]],
+    room: usize,
+) -> Result<Outcome, Fail> {
+    let mut host = MemHost::new(files_of(alloc, files)?);
     let mut out = MemSink::new(alloc, room)?;
     let (status, err) = call_over(alloc, words, &mut host, &mut out)?;
     Ok(Outcome { status, out, err })
+}
+
+// Calls the program with these words and the file `F`, with room for so many bytes of output.
+pub(crate) fn call(
+    alloc: Global,
+    words: &[&str],
+    file: &[u8],
+    room: usize,
+) -> Result<Outcome, Fail> {
+    call_on(alloc, words, &[file], room)
 }
 
 #[test]
@@ -140,6 +158,11 @@ fn words_outside_the_grammar_are_refused(rt: HostRuntime) -> Result<(), Fail> {
         &["show", "all", "F"],
         &["show", "atoms", "-x"],
         &["cmp", "-", "-"],
+        &["cmp", "F"],
+        &["cmp", "F", "-x"],
+        &["cmp", "F", "F", "F"],
+        &["canon", "F", "F"],
+        &["strip"],
         &["--help"],
     ] {
         let found = call(rt.alloc(), words, SAMPLE, 1000)?;
@@ -151,7 +174,7 @@ fn words_outside_the_grammar_are_refused(rt: HostRuntime) -> Result<(), Fail> {
 }
 
 // The form of these chunks, with zero padding.
-fn form(alloc: Global, chunks: &[(&[u8], &[u8])]) -> Result<Vec<u8>, Fail> {
+pub(crate) fn form(alloc: Global, chunks: &[(&[u8], &[u8])]) -> Result<Vec<u8>, Fail> {
     let mut body = Vec::new(alloc);
     body.extend_from_slice(b"BEAM")?;
     for (id, payload) in chunks {
@@ -190,15 +213,10 @@ fn shows(
 
 #[test]
 fn tables_are_shown_or_refused(rt: HostRuntime) -> Result<(), Fail> {
-    let names = b"\0\0\0\x05\x01m\x02go\x06erlang\x0bmodule_info\x0fget_module_info".as_slice();
-    let atoms = (b"AtU8".as_slice(), names);
+    let atoms = (b"AtU8".as_slice(), ATOMS);
     let huge = b"\xff\xff\xff\xff".as_slice();
-    let calls =
-        b"\0\0\0\x02\0\0\0\x03\0\0\0\x05\0\0\0\x01\0\0\0\x03\0\0\0\x05\0\0\0\x02".as_slice();
-    let imports = (b"ImpT".as_slice(), calls);
-    let entries =
-        b"\0\0\0\x03\0\0\0\x04\0\0\0\x01\0\0\0\x06\0\0\0\x04\0\0\0\0\0\0\0\x04\0\0\0\x02\0\0\0\x01\0\0\0\x02".as_slice();
-    let exports = (b"ExpT".as_slice(), entries);
+    let imports = (b"ImpT".as_slice(), IMPORTS);
+    let exports = (b"ExpT".as_slice(), EXPORTS);
     let locals = (b"LocT".as_slice(), b"\0\0\0\0".as_slice());
     let one = b"\0\0\0\x01\0\0\0\x02\0\0\0\x01\0\0\0\x02\0\0\0\0\0\0\0\0\0\0\0\0".as_slice();
     let funs = (b"FunT".as_slice(), one);
@@ -322,7 +340,7 @@ fn literals_lines_and_terms_are_shown_or_refused(rt: HostRuntime) -> Result<(), 
         (
             "lines",
             b"Line",
-            b"\0\0\0\0\0\0\0\0\0\0\0\x04\0\0\0\x02\0\0\0\01A",
+            LINES,
             0,
             "instructions 4\n1 0:3\n2 0:4\n",
             "",
@@ -388,7 +406,7 @@ fn literals_lines_and_terms_are_shown_or_refused(rt: HostRuntime) -> Result<(), 
         (
             "attributes",
             b"Attr".as_slice(),
-            b"\x83l\0\0\0\x01h\x02w\x03vsnl\0\0\0\x01n\x10\0\x01\0\0\0\0\0\0\0\0\0\0\0\0\0\0\x01jj".as_slice(),
+            ATTRIBUTES,
             0,
             "[{vsn,[1329227995784915872903807060280344577]}]\n",
             "",
@@ -483,7 +501,7 @@ fn code_is_listed_or_refused(rt: HostRuntime) -> Result<(), Fail> {
 }
 
 // A payload of code whose one instruction is `move` with these bytes behind its opcode.
-fn moving(alloc: Global, operands: &[u8]) -> Result<Vec<u8>, Fail> {
+pub(crate) fn moving(alloc: Global, operands: &[u8]) -> Result<Vec<u8>, Fail> {
     let mut code = Vec::new(alloc);
     code.extend_from_slice(b"\0\0\0\x10\0\0\0\0\0\0\0\x03\0\0\0\x01\0\0\0\0\x40")?;
     code.extend_from_slice(operands)?;
@@ -559,7 +577,7 @@ fn a_read_that_fails_has_its_status(rt: HostRuntime) -> Result<(), Fail> {
     let alloc = rt.alloc();
     let mut fails = NumberList::new(alloc);
     fails.push(3)?;
-    let mut host = ScriptHost::new(files_of(alloc, SAMPLE)?, 20, fails);
+    let mut host = ScriptHost::new(files_of(alloc, &[SAMPLE])?, 20, fails);
     let mut out = MemSink::new(alloc, 100)?;
     let (status, err) = call_over(alloc, &["info", "F"], &mut host, &mut out)?;
     assert_eq!(rt; status, Status::ReadFault);
@@ -571,7 +589,7 @@ fn a_read_that_fails_has_its_status(rt: HostRuntime) -> Result<(), Fail> {
 #[test]
 fn a_write_that_fails_has_its_status(rt: HostRuntime) -> Result<(), Fail> {
     let alloc = rt.alloc();
-    let mut host = MemHost::new(files_of(alloc, SAMPLE)?);
+    let mut host = MemHost::new(files_of(alloc, &[SAMPLE])?);
     let mut out = ScriptSink::new(alloc, 100, 5, 2)?;
     let (status, err) = call_over(alloc, &["info", "F"], &mut host, &mut out)?;
     assert_eq!(rt; status, Status::WriteFault);

@@ -1,17 +1,36 @@
-use Rattle.std.proofs.Common.{◌≡◌, ℕ, List, [], ◌∷◌, Option, subst, rules}
-use Rattle.std.specs.Prelude.{Any, IfSome, option_map}
-use Rattle.beam_cli.specs.Words.{Asked, name_of}
+use Rattle.std.proofs.Common.{List, map, ap, length, ◌∙◌, subst}
+use Rattle.std.proofs.lemmas.Result.{err_from_is_err_and}
+use Rattle.bk_port.specs.Causes.{Rose}
+use Rattle.beam_cli.specs.declared.loading.LoadedFile.{LoadedFile}
 use Rattle.beam_cli.specs.Asking.{asked}
-use Rattle.beam_cli.specs.Answer.{asked_answer, of_file, output_of, refused}
-use Rattle.beam_cli.proofs.Messages.{reason_at, refused_answer}
+use Rattle.beam_cli.specs.Files.{named_file}
+use Rattle.beam_cli.specs.Made.{GivesOf, made_of_output}
+use Rattle.beam_cli.specs.Answer.{output_of}
+use Rattle.beam_cli.proofs.Loads.{loaded_as_long}
+use Rattle.beam_cli.proofs.Makes.{load_fault, load_reason, make_ok, make_reason}
 use Rattle.beam_cli.proofs.making.make.Goals as goal
+
+pub returns-in_err-files-clause-reason : goal.returns-in_err-files-clause-reason
+returns-in_err-files-clause-reason g c =
+    let p = err_from_is_err_and c.from_residual.result c.from_residual.ensures.1 in
+    rw (p.1, p.2)
+    (load_reason (g.H.Host.holds c.args.host.now) (asked c.args.request) (λ n. Rose (g.H.Host.faults c.args.host.now n) (g.H.Host.faults c.load_files.new.host n)) c.in_err-files.field-0.0 c.in_err-files.ensures.reason)
+
+pub returns-in_err-files-clause-read_fault : goal.returns-in_err-files-clause-read_fault
+returns-in_err-files-clause-read_fault g c =
+    let p = err_from_is_err_and c.from_residual.result c.from_residual.ensures.1 in
+    rw (p.1, p.2)
+    (load_fault (g.H.Host.holds c.args.host.now) (λ n. Rose (g.H.Host.faults c.args.host.now n) (g.H.Host.faults c.load_files.new.host n)) c.args.request.names.now c.in_err-files.field-0.0 c.in_err-files.ensures.reason)
+
+pub output_of-requires : goal.output_of-requires
+output_of-requires g c = ap length c.as_slice.ensures.value ∙ loaded_as_long (g.H.Host.holds c.args.host.now) c.args.request.names.now c.in_ok-files.files.items c.in_ok-files.ensures.loaded ∙ c.requires
+
+pub returns-clause-ok : goal.returns-clause-ok
+returns-clause-ok g c =
+    make_ok (g.H.Host.holds c.args.host.now) (asked c.args.request) c.in_ok-files.files.items c.output_of.result c.in_ok-files.ensures.loaded
+    (subst (λ (files : List LoadedFile). GivesOf made_of_output c.output_of.result (output_of c.args.request.command (map named_file files))) c.as_slice.ensures.value c.output_of.ensures)
 
 pub returns-clause-reason : goal.returns-clause-reason
 returns-clause-reason g c =
-    let holds : List ℕ → Option (List ℕ) = g.H.Host.holds c.args.host.now in
-    let asks : Asked = asked c.args.command in
-    let name : List ℕ = c.name-name.result.now in
-    let named : Any (λ n. n ≡ c.name-name.result.now) (name_of asks ∷ []) = search rules in
-    reason_at (asked_answer holds asks) _ (name_of asks ∷ []) c.name-name.result c.in-Err.refusal c.stop_for.result c.stop_for.ensures named
-    (λ other. subst (λ (n : List ℕ). IfSome (option_map (of_file (output_of asks) n) (holds n)) (λ a. a ≡ refused c.name-name.result.now c.in-Err.refusal)) c.name-name.ensures
-    (refused_answer (holds name) (output_of asks) name c.in_ok-bytes.bytes.items c.in-Err.refusal c.in_ok-bytes.ensures.whole c.in_ok-bytes.ensures.size (rw c.as_slice.ensures at c.in-Err.ensures.text) other))
+    make_reason (g.H.Host.holds c.args.host.now) (asked c.args.request) c.in_ok-files.files.items (λ n. Rose (g.H.Host.faults c.args.host.now n) (g.H.Host.faults c.load_files.new.host n)) c.output_of.result c.in_ok-files.ensures.loaded c.requires
+    (subst (λ (files : List LoadedFile). GivesOf made_of_output c.output_of.result (output_of c.args.request.command (map named_file files))) c.as_slice.ensures.value c.output_of.ensures)
