@@ -1,6 +1,7 @@
 #!/bin/sh
-# Compares `info` and `show` with what Erlang's own beam_lib says of installed .beam files, and sees
-# that `disasm` lists each of them. Literals are packed in these files, so `show literals` is also
+# Compares `info`, `show` and `strip` with what Erlang's own beam_lib says of installed .beam files, and
+# sees that `disasm` lists each of them, that each is its own `canon`, and that `cmp` finds it the same as
+# itself. Literals are packed in these files, so `show literals` is also
 # compared for forms that are made of them and hold the same literals unpacked, and for a form of made
 # literals. It is skipped where Erlang is missing.
 # Words: files, or none for those below /usr/lib and /usr/local/lib.
@@ -17,6 +18,7 @@ trap 'rm -rf "$folder"' EXIT
 program=$top/crates/beam_cli/out/beam_cli
 escript "$top/tools/expected.escript" "$folder" "$@"
 : >"$folder/refused"
+echo same >"$folder/same"
 same=0
 differ=0
 skipped=0
@@ -50,6 +52,9 @@ count=0
 for file in "$@"; do
     count=$((count + 1))
     compare any "$file" disasm
+    compare "$file" "$file" canon
+    compare "$folder/same" "$file" cmp "$file"
+    compare "$folder/$count.strip" "$file" strip
     compare "$folder/$count.info" "$file" info
     for what in atoms imports exports locals funs literals lines attributes compile; do
         if [ -f "$folder/$count.$what" ]; then

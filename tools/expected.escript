@@ -1,5 +1,5 @@
 #!/usr/bin/env escript
-%% Prints what `info` and `show` should print of each file, as Erlang's own beam_lib tells it.
+%% Prints what `info`, `show` and `strip` should print of each file, as Erlang's own beam_lib tells it.
 %% Words: the folder for the outputs, and the files. Output N of a command stands in FOLDER/N.COMMAND.
 %% FOLDER/N.beam is a form with the literals of file N unpacked, and FOLDER/N.plain what is to be shown
 %% of them; made.beam and made.plain are the same for literals that are made here.
@@ -26,7 +26,19 @@ one(Folder, N, File) ->
     lines(Folder, N, Chunks),
     term(Folder, N, Chunks, "attributes", "Attr"),
     term(Folder, N, Chunks, "compile", "CInf"),
-    literals(Folder, N, Chunks).
+    literals(Folder, N, Chunks),
+    stripped(Folder, N, Bytes, Chunks).
+
+%% The chunks that beam_lib keeps where it strips a file, with its payloads, in the order of the file.
+%% (It writes them gzipped and in an order of its own.)
+stripped(Folder, N, Bytes, Chunks) ->
+    {ok, {_, Stripped}} = beam_lib:strip(Bytes),
+    {ok, _, Kept} = beam_lib:all_chunks(Stripped),
+    InOrder = [lists:keyfind(Id, 1, Kept) || {Id, _} <- Chunks, lists:keymember(Id, 1, Kept)],
+    true = length(InOrder) =:= length(Kept),
+    Body = [<<"BEAM">> | [[Id, <<(byte_size(Payload)):32>>, Payload, <<0:(-byte_size(Payload) band 3 * 8)>>]
+                          || {Id, Payload} <- InOrder]],
+    ok = file:write_file(path(Folder, N, "strip"), [<<"FOR1", (iolist_size(Body)):32>>, Body]).
 
 %% beam_lib sorts the imports; the payload gives their order.
 in_file(Bytes, Imports) ->

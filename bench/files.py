@@ -1,0 +1,76 @@
+"""Makes the files that the benches measure."""
+import struct
+
+U, I, A, X, Y, F, LIST, PAIRS, LITERAL, TYPED = 0, 1, 2, 3, 4, 5, 0x17, 0x37, 0x47, 0x57
+
+
+def form(path, chunks):
+    """Writes the form of these chunks, each an id and a payload, with zeros as padding."""
+    body = b"".join(id + struct.pack(">I", len(payload)) + payload + bytes(-len(payload) % 4) for id, payload in chunks)
+    with open(path, "wb") as file:
+        file.write(b"FOR1" + struct.pack(">I", 4 + len(body)) + b"BEAM" + body)
+
+
+def many_chunks(path, size=16 * 1024 * 1024):
+    """Writes a form of this size with 256 chunks, of which ten are kept in stripped files and have most of the bytes."""
+    kept = (b"Atom", b"StrT", b"ImpT", b"ExpT", b"FunT", b"LitT", b"Meta", b"Line", b"Type")
+    chunks = [(b"AtU8", b"\0\0\0\x01\x01m")] + [(b"C%03d" % n, bytes(8192)) for n in range(246)]
+    rest = size - 12 - 16 - 246 * 8200 - len(kept) * 8
+    each = rest // len(kept) // 4 * 4
+    chunks += [(id, bytes(each)) for id in kept[1:]] + [(kept[0], bytes(rest - (len(kept) - 1) * each))]
+    form(path, chunks)
+    return len(chunks)
+
+
+def number(tag, n):
+    """A number with a tag in the shortest form."""
+    if 0 <= n < 16:
+        return bytes([n << 4 | tag])
+    if 0 <= n < 2048:
+        return bytes([n >> 8 << 5 | 8 | tag, n & 255])
+    size = max(2, (n.bit_length() + 8) // 8)
+    return bytes([size - 2 << 5 | 24 | tag]) + n.to_bytes(size, "big", signed=True)
+
+
+def typed(x, kind):
+    return bytes([TYPED]) + number(X, x) + number(U, kind)
+
+
+def members(*of):
+    return bytes([LIST]) + number(U, len(of)) + b"".join(of)
+
+
+def block(n):
+    label, atom = n % 60_000 + 1, n % 300 + 1
+    return b"".join((
+        b"\x01" + number(U, label),                                            # label
+        b"\x99" + number(U, n % 2000),                                         # line
+        b"\x02" + number(A, atom) + number(A, atom + 1) + number(U, 2),        # func_info
+        b"\x40" + number(X, 3) + number(Y, 1),                                 # move
+        b"\x40" + number(I, -n * 77_777) + number(X, 1),
+        b"\x40" + bytes([LITERAL]) + number(U, n % 500) + number(X, 0),
+        b"\x42" + typed(2, n % 40) + number(U, 1) + number(X, 4),              # get_tuple_element
+        b"\x3b" + number(X, 0) + number(F, label)                              # select_val
+        + members(number(A, atom), number(F, 7), number(A, atom + 2), number(F, label)),
+        b"\x2b" + number(F, label) + number(X, 0) + number(A, atom),           # is_eq_exact
+        b"\x10" + bytes([PAIRS]) + number(U, 2) + number(U, 0) + number(U, 9)  # test_heap
+        + number(U, 2) + number(U, 1) + number(U, 3),
+        b"\x07" + number(U, 2) + number(U, n % 900),                           # call_ext
+        b"\x12" + number(U, 2),                                                # deallocate
+        b"\x13",                                                               # return
+    ))
+
+
+def code(instructions, functions):
+    """The payload of a chunk of code."""
+    return struct.pack(">5I", 16, 0, 182, 60_001, functions) + instructions + b"\x03"
+
+
+def mixed_code(size):
+    """The payload of a chunk of code with so many bytes of mixed instructions."""
+    blocks, total, n = [], 0, 0
+    while total < size:
+        blocks.append(block(n))
+        total += len(blocks[-1])
+        n += 1
+    return code(b"".join(blocks), n)
