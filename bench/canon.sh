@@ -3,12 +3,8 @@
 # `sha256sum`, and the most memory that it took divided by the file's size. Aim: below 0.5 and below 3.2.
 # Then the same for 4 MB of mixed code, for which there is no aim, and the time for twice the code
 # divided by that for the code, which should be about 2.
-set -eu
-top=$(CDPATH= cd -- "$(dirname -- "$0")/.." && pwd)
-folder=$(mktemp -d)
-trap 'rm -rf "$folder"' EXIT
-"$top/beamkit" info "$top/crates/beam_cli/data/sample.beam" >/dev/null
-PYTHONDONTWRITEBYTECODE=1 PYTHONPATH="$top/bench" python3 - "$top/crates/beam_cli/out/beam_cli" "$folder" <<'PYTHON'
+. "$(dirname -- "$0")/setup.sh"
+python3 - "$program" "$folder" <<'PYTHON'
 import os, sys
 from files import form, many_chunks, mixed_code
 from measure import apart, compare

@@ -4,12 +4,8 @@
 # the output, and the time for twice the code divided by that for the code. Aim: below 3, below 8,
 # about 2. Then it prints what the worst case takes, a file of 16 MiB whose instructions have one byte
 # each, for which there is no aim; it needs some gigabytes of memory.
-set -eu
-top=$(CDPATH= cd -- "$(dirname -- "$0")/.." && pwd)
-folder=$(mktemp -d)
-trap 'rm -rf "$folder"' EXIT
-"$top/beamkit" info "$top/crates/beam_cli/data/sample.beam" >/dev/null
-PYTHONDONTWRITEBYTECODE=1 PYTHONPATH="$top/bench" python3 - "$top/crates/beam_cli/out/beam_cli" "$folder" <<'PYTHON'
+. "$(dirname -- "$0")/setup.sh"
+python3 - "$program" "$folder" <<'PYTHON'
 import os, sys
 from files import code, form, mixed_code
 from measure import apart, run

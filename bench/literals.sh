@@ -4,12 +4,8 @@
 # memory that it took divided by the sizes of the output and of the file; and then the same memory for
 # twice the literals, and the time for these divided by that for the first. Aim: below 4 times the
 # output, and about 2.
-set -eu
-top=$(CDPATH= cd -- "$(dirname -- "$0")/.." && pwd)
-folder=$(mktemp -d)
-trap 'rm -rf "$folder"' EXIT
-"$top/beamkit" info "$top/crates/beam_cli/data/sample.beam" >/dev/null
-PYTHONDONTWRITEBYTECODE=1 PYTHONPATH="$top/bench" python3 - "$top/crates/beam_cli/out/beam_cli" "$folder" <<'PYTHON'
+. "$(dirname -- "$0")/setup.sh"
+python3 - "$program" "$folder" <<'PYTHON'
 import os, random, resource, struct, sys
 from measure import apart, run
 
