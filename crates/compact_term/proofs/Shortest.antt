@@ -16,7 +16,7 @@ use Rattle.compact_term.specs.Spelling.{InTwosComplement, IsShort, IsLong, IsNum
 use Rattle.compact_term.specs.Canonical.{magnitude, fewest, bytes_of, canonical_short, in_many_bytes, canonical_number, canonical_u, canonical_z, canonical_reg, canonical_plain, canonical_pair, canonical}
 use Rattle.compact_term.proofs.Numbers.{number_length}
 use Rattle.compact_term.proofs.Proper.{mag-twos_complement}
-use Rattle.compact_term.proofs.Written.{fewest_least, fewest_below, small_fewest, bytes_of_length, four_bits, eleven_bits}
+use Rattle.compact_term.proofs.Written.{fewest_least, fewest_most, fewest_below, small_fewest, bytes_of_length, four_bits, eleven_bits}
 
 -- ---- numbers
 
@@ -103,6 +103,18 @@ chosen_length tag z most =
           rw test (omega arith))
       | inr few ↦ (let test : leb (fewest z) 8 ≡ true = grind arith in let short = short_length tag z in rw test (omega arith))
     ]
+
+pub number_small : (tag : ℕ) (z : ℤ) → length (canonical_number tag z) ≤ 18
+number_small tag z =
+    let most = fewest_most 14 2 (magnitude z) in
+    let size = chosen_length tag z (omega arith) in
+    omega arith
+
+pub integer_small : (w : List ℕ) → length (in_many_bytes 1 w) ≤ length w + 18
+integer_small w =
+    let most = fewest_most 14 2 (length w - 9) in
+    let count = short_length 0 (pos (length w - 9)) in
+    omega (arith, length-append (canonical_short 0 (pos (length w - 9))) w)
 
 short_chosen : (tag : ℕ) (z : ℤ) → fewest z ≤ 8 → canonical_number tag z ≡ canonical_short tag z
 unfolding canonical_number

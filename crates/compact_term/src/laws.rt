@@ -1,12 +1,12 @@
 //! What holds of the spellings of operands.
 
-ghost use Rattle.std.specs.Prelude.{◌≡◌, ℕ, ◌<◌, ◌≤◌, ◌^◌, ◌++◌, List, length};
+ghost use Rattle.std.specs.Prelude.{◌≡◌, ℕ, ℤ, ◌+◌, ◌<◌, ◌≤◌, ◌^◌, ◌++◌, List, length};
 ghost use Rattle.bk_codec.specs.Exact.{IsExactInFront, RefusalsStand, FrontsAreCut};
 ghost use Rattle.compact_term.specs.declared.operand.Operand.{Operand};
 ghost use Rattle.compact_term.specs.Spelling.{Spells};
 ghost use Rattle.compact_term.specs.Reading.{operand_at};
 ghost use Rattle.compact_term.specs.Operand.{MeetsType, IsProper};
-ghost use Rattle.compact_term.specs.Canonical.{canonical};
+ghost use Rattle.compact_term.specs.Canonical.{canonical, canonical_number, in_many_bytes};
 
 use crate::refusal::OperandRefusal;
 
@@ -40,4 +40,10 @@ pub fn canonical_is_spelled()
 /// No spelling of an operand is shorter than its canonical one.
 pub fn canonical_is_shortest()
     ensures { (o : Operand) (bytes : List ℕ) → Spells o bytes → length (canonical o) ≤ length bytes }
+{}
+
+/// A number takes 18 bytes at most, and a wide integer 18 more than its bytes.
+pub fn canonical_numbers_are_short()
+    ensures number { (tag : ℕ) (z : ℤ) → length (canonical_number tag z) ≤ 18 }
+    ensures integer { (w : List ℕ) → length (in_many_bytes 1 w) ≤ length w + 18 }
 {}

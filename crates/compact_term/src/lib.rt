@@ -14,8 +14,8 @@ mod writer;
 
 pub use integer::{Integer128, WideInteger};
 pub use laws::{
-    canonical_is_shortest, canonical_is_spelled, fronts_are_cut, one_form, reading_is_exact,
-    refusals_stand,
+    canonical_is_shortest, canonical_is_spelled, canonical_numbers_are_short, fronts_are_cut,
+    one_form, reading_is_exact, refusals_stand,
 };
 pub use list::{PairList, PlainList};
 pub use operand::{Operand, Plain, Reg};

@@ -28,6 +28,20 @@ find-numbered k (suc i) op (r ∷ rows) e counts =
     let other : r.op ≡ op → ⊥ = omega arith in
     rw (ne_eqb _ _ other) (find-numbered (suc k) i op rows (omega arith) parts.1)
 
+numbered_at : (k i : ℕ) (rows : List Row) (r : Row) → numbered k rows ≡ true → slice_get rows i ≡ Some r → r.op ≡ k + i
+unfolding numbered
+numbered_at k i [] r counts found = absurd cc
+numbered_at k zero (q ∷ rows) r counts found =
+    let parts = and_parts (eqb q.op k) (numbered (suc k) rows) counts in
+    let is = eqb-true q.op k parts.0 in
+    let same : q ≡ r = cc in
+    let op = ap (λ (x : Row). x.op) same in
+    omega arith
+numbered_at k (suc i) (q ∷ rows) r counts found =
+    let parts = and_parts (eqb q.op k) (numbered (suc k) rows) counts in
+    let is = numbered_at (suc k) i rows r parts.1 found in
+    omega arith
+
 table-numbered : numbered 1 table ≡ true
 unfolding numbered table
 table-numbered = refl
@@ -43,6 +57,10 @@ row_with-place op i rows place same =
 
 pub row_with-none : (op : ℕ) → op < 1 → None ≡ row_with op
 row_with-none op none = let zero_is : op ≡ 0 = omega arith in sym (ap row_with zero_is ∙ row_with-zero)
+
+-- each row of the table is the one with its number
+pub row_with-own : (i : ℕ) (r : Row) → slice_get table i ≡ Some r → row_with r.op ≡ Some r
+row_with-own i r found = find-numbered 1 i r.op table (numbered_at 1 i table r table-numbered found) table-numbered ∙ found
 
 -- what a look-up of an item gives
 pub copied_at : (rows : List OpRow) (i : ℕ) (r : Option (Bor OpRow)) → IsItemAt rows i r → option_copied r ≡ slice_get rows i

@@ -1,5 +1,5 @@
 -- The opcodes from 1 to 182: each with its name and the number of its operands.
-use Rattle.std.specs.Prelude.{ℕ, Option, List, [], ◌∷◌, ◌==◌, codes, find, option_map}
+use Rattle.std.specs.Prelude.{ℕ, Option, List, [], ◌∷◌, ◌==◌, ◌&&◌, ◌||◌, nat_le, Bool, codes, find, option_map, bytes_eq}
 use Rattle.op_table.specs.declared.row.OpRow.{OpRow}
 use Rattle.op_table.specs.declared.row.Profile.{Profile}
 use Rattle.op_table.specs.declared.row.Profile.TheVariants.{Typed, Later, Out}
@@ -202,6 +202,14 @@ table =
 -- the row with this number
 abbrev pub row_with : ℕ → Option Row
 row_with op = find (λ r. r.op == op) table
+
+-- the row of this name
+abbrev pub row_named : List ℕ → Option Row
+row_named name = find (λ r. bytes_eq r.name name) table
+
+-- a lower-case letter, a digit or `_`
+abbrev pub is_name_byte : ℕ → Bool
+is_name_byte b = (nat_le 97 b && nat_le b 122) || (nat_le 48 b && nat_le b 57) || (b == 95)
 
 -- how many operands an opcode has
 abbrev pub arity_of : ℕ → Option ℕ

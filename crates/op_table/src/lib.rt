@@ -2,11 +2,13 @@
 #![tactic(auto)]
 
 mod instr;
+mod laws;
 mod row;
 mod rows;
 
 pub use instr::{Instr, OperandList};
-pub use row::{OpRow, Profile, op_row};
+pub use laws::{names_are_words, names_find_their_rows, rows_have_their_numbers};
+pub use row::{OpRow, Profile, op_by_name, op_row};
 
 #[cfg(test)]
 mod tests;

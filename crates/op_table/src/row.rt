@@ -1,7 +1,8 @@
 //! The table of opcodes.
 
 ghost use Rattle.std.specs.Prelude.{◌≡◌, ◌⊎◌, ◌<◌, ◌↔◌, IsNone, Some, IfSome, option_copied, option_map, map, length};
-ghost use Rattle.op_table.specs.Table.{table, row_with, row_of, arity_of};
+ghost use Rattle.std.specs.List.{AllByRecursion};
+ghost use Rattle.op_table.specs.Table.{table, row_with, row_named, row_of, arity_of};
 
 use crate::rows::ROWS;
 
@@ -46,4 +47,12 @@ pub fn op_row(op: u8) -> Option<&'static OpRow>
 {
     let index = usize::from(op).checked_sub(1)?;
     rows().get(index)
+}
+
+/// The row of the opcode with this name, if there is one.
+pub fn op_by_name(name: &[u8]) -> Option<&'static OpRow>
+    ensures row { option_map row_of (option_copied result) ≡ row_named name.now }
+    ensures none { IsNone result ↔ AllByRecursion (λ r. r.name ≡ name.now → ⊥) table }
+{
+    rows().iter().find(|r| r.name.as_bytes() == name)
 }

@@ -28,6 +28,18 @@ fn opcodes_have_rows(rt: HostRuntime) -> Result<(), Fail> {
 }
 
 #[test]
+fn names_have_rows(rt: HostRuntime) -> Result<(), Fail> {
+    for (op, name, arity) in ROWS {
+        let row = op_by_name(name.as_bytes()).ok_or("no row")?;
+        assert_eq!(rt; (row.op, row.name, row.arity), (op, name, arity));
+    }
+    for name in ["", "Move", "mov", "moves", "int_code_end "] {
+        assert!(rt; op_by_name(name.as_bytes()).is_none());
+    }
+    Ok(())
+}
+
+#[test]
 #[tactic(auto, unfolding(crate::specs::Table::table))]
 fn instructions_hold_their_operands(rt: HostRuntime) -> Result<(), Fail> {
     let mut operands = OperandList::new(rt.alloc());
