@@ -1,0 +1,8 @@
+use Rattle.std.proofs.Common.{◌∙◌}
+use Rattle.bk_parse.proofs.Parsing.{parsed_number}
+use Rattle.bk_parse.proofs.decimal.read_u32.Goals as goal
+
+pub returns : goal.returns
+returns c =
+    let facts = c.in_ok-numeral.ensures in
+    c.ok.ensures.value ∙ parsed_number 32 c.args.text.now c.parse.result facts.1 facts.2 (rw facts.0 at c.parse.ensures.value.0)

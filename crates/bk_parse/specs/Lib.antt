@@ -1,0 +1,5 @@
+pub mod Inverse
+pub mod Parts
+pub mod Numbers
+pub mod HexBytes
+pub mod Answer
