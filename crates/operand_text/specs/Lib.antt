@@ -1,0 +1,4 @@
+pub mod Operand
+pub mod Reading
+pub mod Listed
+pub mod Words

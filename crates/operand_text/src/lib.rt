@@ -1,0 +1,15 @@
+//! The texts of operands, as listings show them, written and read.
+#![tactic(auto)]
+
+mod laws;
+mod reading;
+mod sizes;
+mod writing;
+
+pub use laws::{operand_texts_are_words, operands_invert};
+pub use reading::read_operand_text;
+pub use sizes::canonical_is_near_its_text;
+pub use writing::put_operand;
+
+#[cfg(test)]
+mod tests;

@@ -1,0 +1,97 @@
+//! Writing the text of operands.
+
+ghost use Rattle.std.specs.Prelude.{◌≡◌, ◌++◌, codes, OnOk};
+ghost use Rattle.std.specs.List.{join_by};
+ghost use Rattle.operand_text.specs.Operand.{register_text, plain_text, pair_text, operand_text};
+
+use bk_base::{Bytes, NoMemory};
+use bk_text::{put_hex, put_marked, put_number};
+use compact_term::{Operand, Plain, Reg};
+
+/// Appends the text of an operand to `out`, its numbers in decimal.
+pub fn put_operand(out: &mut Bytes, operand: &Operand) -> Result<(), NoMemory>
+    ensures { OnOk result (out.new.items ≡ out.old.items ++ operand_text operand.now) }
+{
+    match operand {
+        Operand::One(plain) => put_plain(out, plain),
+        Operand::List(members) => {
+            out.push(b'[')?;
+            put_members(out, members.as_slice())?;
+            out.push(b']')
+        }
+        Operand::Alloc(pairs) => {
+            out.push(b'{')?;
+            put_pairs(out, pairs.as_slice())?;
+            out.push(b'}')
+        }
+    }
+}
+
+fn put_plain(out: &mut Bytes, plain: &Plain) -> Result<(), NoMemory>
+    ensures { OnOk result (out.new.items ≡ out.old.items ++ plain_text plain.now) }
+{
+    match plain {
+        Plain::U(n) => put_marked(out, b"u", *n),
+        Plain::I(n) => put_marked(out, b"i", n.value()),
+        Plain::Wide(bytes) => {
+            out.push(b'w')?;
+            put_hex(out, bytes.as_slice())
+        }
+        Plain::A(n) => put_marked(out, b"a", *n),
+        Plain::X(n) => put_marked(out, b"x", *n),
+        Plain::Y(n) => put_marked(out, b"y", *n),
+        Plain::F(n) => put_marked(out, b"f", *n),
+        Plain::H(n) => put_marked(out, b"h", *n),
+        Plain::Fr(n) => put_marked(out, b"fr", *n),
+        Plain::Lit(n) => put_marked(out, b"l", *n),
+        Plain::Typed(register, n) => {
+            put_register(out, *register)?;
+            put_marked(out, b"/", *n)
+        }
+    }
+}
+
+fn put_register(out: &mut Bytes, register: Reg) -> Result<(), NoMemory>
+    ensures { OnOk result (out.new.items ≡ out.old.items ++ register_text register) }
+{
+    match register {
+        Reg::X(n) => put_marked(out, b"x", n),
+        Reg::Y(n) => put_marked(out, b"y", n),
+    }
+}
+
+fn put_members(out: &mut Bytes, members: &[Plain]) -> Result<(), NoMemory>
+    ensures { OnOk result (out.new.items ≡ out.old.items ++ join_by plain_text (codes ",") members.now) }
+{
+    let [first, others @ ..] = members else {
+        return Ok(());
+    };
+    put_plain(out, first)?;
+    for member in others {
+        out.push(b',')?;
+        put_plain(out, member)?;
+    }
+    Ok(())
+}
+
+fn put_pairs(out: &mut Bytes, pairs: &[(u64, u64)]) -> Result<(), NoMemory>
+    ensures { OnOk result (out.new.items ≡ out.old.items ++ join_by pair_text (codes ",") pairs.now) }
+{
+    let [first, others @ ..] = pairs else {
+        return Ok(());
+    };
+    put_pair(out, *first)?;
+    for pair in others {
+        out.push(b',')?;
+        put_pair(out, *pair)?;
+    }
+    Ok(())
+}
+
+// A kind and an amount.
+fn put_pair(out: &mut Bytes, pair: (u64, u64)) -> Result<(), NoMemory>
+    ensures { OnOk result (out.new.items ≡ out.old.items ++ pair_text pair) }
+{
+    put_number(out, pair.0)?;
+    put_marked(out, b":", pair.1)
+}
