@@ -206,10 +206,14 @@ module _ (code_shortest : (c : CodeVal) (payload : List ℕ) → SpellsCode c pa
       all_meet (w ∷ v) [] are meet = absurd are
       all_meet (w ∷ v) (c ∷ chunks) are meet = (chunk_meets w c are.0 meet.0, all_meet v chunks are.1 meet.1)
 
-      pub file_has_canon : ((v : List FileChunk) → AreChunks v → FileMeetsType v → IsWritable v → IsFile v (canonical_file v))
-          → (v : List FileChunk) (bytes : List ℕ) → IsBytes bytes → IsFile v bytes → IsFile v (canonical_file v) × IsCanonical (canonical_file v)
-      file_has_canon canon v bytes fits is =
-          let are = values_are v is.chunks is.values is.form.distinct in
-          let meets = all_meet v is.chunks is.values (chunks_meet is.chunks bytes is.form fits) in
-          let file = canon v are meets (file_writable v bytes fits is) in
-          (file, (v, file, refl))
+      pub file_meets : (v : List FileChunk) (bytes : List ℕ) → IsBytes bytes → IsFile v bytes → AreChunks v × FileMeetsType v × IsWritable v
+      file_meets v bytes fits is =
+          (values_are v is.chunks is.values is.form.distinct, all_meet v is.chunks is.values (chunks_meet is.chunks bytes is.form fits), file_writable v bytes fits is)
+
+pub file_has_canon : ((v : List FileChunk) (bytes : List ℕ) → IsBytes bytes → IsFile v bytes → AreChunks v × FileMeetsType v × IsWritable v)
+    → ((v : List FileChunk) → AreChunks v → FileMeetsType v → IsWritable v → IsFile v (canonical_file v))
+    → (v : List FileChunk) (bytes : List ℕ) → IsBytes bytes → IsFile v bytes → IsFile v (canonical_file v) × IsCanonical (canonical_file v)
+file_has_canon meets canon v bytes fits is =
+    let parts = meets v bytes fits is in
+    let file = canon v parts.0 parts.1 parts.2 in
+    (file, (v, file, refl))

@@ -47,14 +47,22 @@ pub fn canon_is_shortest()
     code_chunk::canonical_code_is_shortest();
 }
 
-/// The value of each file has a canonical file, which is canonical.
-pub fn a_file_has_a_canon()
-    ensures { (v : List FileChunk) (bytes : List ℕ) → IsBytes bytes → IsFile v bytes → IsFile v (canonical_file v) × IsCanonical (canonical_file v) }
+/// The value of each file meets its type, its operands are proper and its canonical file has a size
+/// that fits into a word.
+pub fn a_file_meets_its_type()
+    ensures { (v : List FileChunk) (bytes : List ℕ) → IsBytes bytes → IsFile v bytes → AreChunks v × FileMeetsType v × IsWritable v }
 {
     iff_form::chunks_meet_their_type();
     iff_form::a_form_has_its_size();
     code_chunk::spelled_code_is_proper();
     code_chunk::canonical_code_is_shortest();
+}
+
+/// The value of each file has a canonical file, which is canonical.
+pub fn a_file_has_a_canon()
+    ensures { (v : List FileChunk) (bytes : List ℕ) → IsBytes bytes → IsFile v bytes → IsFile v (canonical_file v) × IsCanonical (canonical_file v) }
+{
+    a_file_meets_its_type();
     canon_is_a_file();
 }
 

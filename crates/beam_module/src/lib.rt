@@ -15,8 +15,8 @@ pub use chunk_value::ChunkVal;
 pub use comparison::{Compared, compare};
 pub use file_value::FileVal;
 pub use laws::{
-    a_file_has_a_canon, canon_is_a_file, canon_is_shortest, comparison_tells_what_differs,
-    names_are_exact, one_comparison, one_file, reading_is_exact,
+    a_file_has_a_canon, a_file_meets_its_type, canon_is_a_file, canon_is_shortest,
+    comparison_tells_what_differs, names_are_exact, one_comparison, one_file, reading_is_exact,
 };
 pub use naming::module_name;
 pub use reading::read_file;

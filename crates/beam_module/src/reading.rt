@@ -4,8 +4,8 @@ ghost use Rattle.std.specs.Prelude.{◌≡◌, ◌⊎◌, List, codes, true, byt
 ghost use Rattle.bk_codec.specs.Reading.{GivesAll};
 ghost use Rattle.iff_form.specs.Chunk.{plain, plains};
 ghost use Rattle.iff_form.specs.Form.{IsForm};
-ghost use Rattle.beam_module.specs.File.{FileChunk, IsFile};
-ghost use Rattle.beam_module.specs.Canonical.{IsWritable};
+ghost use Rattle.beam_module.specs.File.{AreChunks, FileChunk, IsFile};
+ghost use Rattle.beam_module.specs.Canonical.{FileMeetsType, IsWritable};
 ghost use Rattle.beam_module.specs.Reading.{file_of, form_or, value_of, values_of};
 
 use crate::chunk_value::ChunkVal;
@@ -74,6 +74,8 @@ fn whole_file(alloc: Global, bytes: &[u8]) -> Result<FileVal, ModuleRefusal>
 pub fn read_file(alloc: Global, bytes: &[u8]) -> Result<FileVal, ModuleRefusal>
     // The bytes are a file of what is read.
     ensures found { IfOk result (λ v. IsFile v bytes.now) }
+    // What is read are chunks that meet their types.
+    ensures chunks { IfOk result (λ v. AreChunks v × FileMeetsType v) }
     // What is read can be written.
     ensures writable { IfOk result IsWritable }
     // Each file is read, unless memory runs out.

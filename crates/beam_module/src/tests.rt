@@ -63,6 +63,7 @@ StrT\0\0\0\0"
     }
     canon_is_a_file();
     canon_is_shortest();
+    a_file_meets_its_type();
     a_file_has_a_canon();
     Ok(())
 }
