@@ -1,3 +1,10 @@
 pub mod Rows
 pub mod Texts
 pub mod Items
+pub mod Bounds
+pub mod Clean
+pub mod Raw
+pub mod Inline
+pub mod CleanLines
+pub mod ReadBack
+pub mod ListableFiles

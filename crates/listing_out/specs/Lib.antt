@@ -1,3 +1,4 @@
-pub mod Operand
 pub mod Lines
 pub mod Comments
+pub mod Listing
+pub mod Listable

@@ -10,7 +10,7 @@ use Rattle.op_table.specs.Instruction.{Instruction}
 use Rattle.code_chunk.specs.declared.code.CodeVal.{CodeVal}
 use Rattle.beam_module.specs.File.{FileChunk}
 use Rattle.beam_module.specs.declared.chunk_value.ChunkVal.TheVariants.{Code, Raw}
-use Rattle.listing_out.specs.Operand.{operand_text}
+use Rattle.operand_text.specs.Operand.{operand_text}
 
 -- ---- payloads
 

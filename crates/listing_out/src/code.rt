@@ -7,11 +7,11 @@ ghost use Rattle.listing_out.specs.Comments.{commented_instruction};
 
 use crate::comments::put_comment;
 use crate::names::Names;
-use crate::operand::put_operand;
 use bk_base::{Bytes, NoMemory};
 use bk_text::{put_hex, put_marked};
 use code_chunk::CodeVal;
 use op_table::{Instr, op_row};
+use operand_text::put_operand;
 
 /// Appends the lines of code to `out`: the line `code H L F E`, and one for each instruction with its
 /// comment, in order.

@@ -3,6 +3,8 @@
 ghost use Rattle.std.specs.Prelude.{◌≡◌, ◌++◌, IfOk, OnOk};
 ghost use Rattle.listing_out.specs.Lines.{text_of};
 ghost use Rattle.listing_out.specs.Comments.{commented_chunk, commented_listing};
+ghost use Rattle.listing_out.specs.Listable.{IsListable};
+ghost use Rattle.listing_out.specs.Listing.{IsListing};
 
 use crate::code::put_code;
 use crate::names::Names;
@@ -10,6 +12,8 @@ use crate::payload::put_payload;
 use beam_module::{ChunkVal, FileVal};
 use bk_base::{Bytes, NoMemory};
 use iff_form::{Id, IdText};
+use op_table::names_are_words;
+use operand_text::operand_texts_are_words;
 use std::alloc::Global;
 
 /// The listing of a file: the line `beam 1`, and then the lines of each chunk in order, each line
@@ -24,8 +28,12 @@ use std::alloc::Global;
 ///
 /// It fails only where memory is wanting.
 pub fn listing(alloc: Global, v: &FileVal) -> Result<Bytes, NoMemory>
-    ensures { IfOk result (λ text. text.items ≡ commented_listing v.now) }
+    ensures text { IfOk result (λ text. text.items ≡ commented_listing v.now) }
+    // Where the lines can be read back, the text without comments has these lines.
+    ensures listing { IsListable v.now → IfOk result (λ text. IsListing v.now text.items) }
 {
+    names_are_words();
+    operand_texts_are_words();
     let names = Names::of_file(alloc, v)?;
     let mut out = Bytes::new(alloc);
     out.extend(b"beam 1\n")?;

@@ -4,11 +4,14 @@
 mod code;
 mod comments;
 mod file;
+mod laws;
 mod names;
-mod operand;
 mod payload;
+mod sizes;
 
 pub use file::listing;
+pub use laws::{a_file_is_listable, listing_is_of_its_file, payload_lines_grow};
+pub use sizes::a_listing_bounds_its_file;
 
 #[cfg(test)]
 mod tests;

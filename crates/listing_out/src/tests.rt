@@ -1,12 +1,10 @@
 use super::*;
 use crate::code::put_code;
 use crate::names::Names;
-use crate::operand::put_operand;
 use crate::payload::put_payload;
 use beam_module::{ChunkVal, FileVal};
-use bk_base::{ByteList, Bytes, Cursor, ItemList};
+use bk_base::{ByteList, Bytes, ItemList};
 use code_chunk::read_code;
-use compact_term::read_operand;
 use iff_form::Id;
 use std::alloc::Global;
 use std::test::Fail;
@@ -25,6 +23,8 @@ fn a_file_is_listed(rt: HostRuntime) -> Result<(), Fail> {
     let text = listing(alloc, &file)?;
     let lines = b"beam 1\nchunk AtU8\n  00000001016d\ncode 3 1 0 -\n  int_code_end\nchunk StrT\n";
     assert_eq!(rt; text.as_slice(), lines.as_slice());
+    a_file_is_listable();
+    listing_is_of_its_file();
     Ok(())
 }
 
@@ -58,45 +58,20 @@ fn code_has_a_line_for_each_instruction(rt: HostRuntime) -> Result<(), Fail> {
     Ok(())
 }
 
-// Operands as bytes, each with its text.
-const OPERANDS: [(&[u8], &[u8]); 22] = [
-    (&[0xf1], b"i15"),
-    (&[0x09, 0x10], b"i16"),
-    (&[0xe9, 0xff], b"i2047"),
-    (&[0x19, 0x08, 0x00], b"i2048"),
-    (&[0x19, 0xff, 0xff], b"i-1"),
-    (&[0x19, 0x80, 0x00], b"i-32768"),
-    (&[0x39, 0xff, 0x7f, 0xff], b"i-32769"),
-    (
-        &[
-            0xf9, 0x80, 1, 2, 3, 4, 5, 6, 7, 8, 9, 10, 11, 12, 13, 14, 15, 16, 17,
-        ],
-        b"w0102030405060708090a0b0c0d0e0f1011",
-    ),
-    (&[0x50], b"u5"),
-    (&[0x02], b"a0"),
-    (&[0x03], b"x0"),
-    (&[0x0b, 0x01], b"x1"),
-    (&[0x04], b"y0"),
-    (&[0x35], b"f3"),
-    (&[0x0e, 0x41], b"h65"),
-    (&[0x27, 0x00], b"fr0"),
-    (&[0x47, 0x70], b"l7"),
-    (&[0x57, 0x03, 0x70], b"x0/7"),
-    (&[0x17, 0x20, 0x12, 0x25], b"[a1,f2]"),
-    (&[0x17, 0x00], b"[]"),
-    (&[0x37, 0x20, 0x00, 0x50, 0x20, 0x10], b"{0:5,2:1}"),
-    (&[0x37, 0x00], b"{}"),
-];
-
 #[test]
-fn operands_have_texts(rt: HostRuntime) -> Result<(), Fail> {
-    for (bytes, expected) in OPERANDS {
-        let operand = read_operand(rt.alloc(), &mut Cursor::new(bytes))?;
-        let mut out = Bytes::new(rt.alloc());
-        put_operand(&mut out, &operand)?;
-        assert_eq!(rt; out.as_slice(), expected);
-    }
+fn names_in_comments_keep_to_their_line(rt: HostRuntime) -> Result<(), Fail> {
+    let alloc = rt.alloc();
+    let atoms = ByteList::from_slice(alloc, b"\0\0\0\x02\x01m\x06a\n; b ")?;
+    let code = [
+        0, 0, 0, 16, 0, 0, 0, 0, 0, 0, 0, 3, 0, 0, 0, 1, 0, 0, 0, 1, 2, 0x12, 0x22, 0x00, 3,
+    ];
+    let mut file = FileVal::new(alloc);
+    file.push(Id(*b"AtU8"), ChunkVal::Raw(atoms))?;
+    file.push(Id(*b"Code"), ChunkVal::Code(read_code(alloc, &code)?))?;
+    let text = listing(alloc, &file)?;
+    let lines = b"beam 1\nchunk AtU8\n  00000002016d06610a3b206220\ncode 3 1 1 -\n\
+\x20 func_info a1 a2 u0  ; m 'a\\x0a; b '\n  int_code_end\n";
+    assert_eq!(rt; text.as_slice(), lines.as_slice());
     Ok(())
 }
 

@@ -1,6 +1,6 @@
 use Rattle.std.proofs.Common.{◌≡◌, ◌++◌, codes, take}
 use Rattle.std.specs.List.{flat_map}
-use Rattle.listing_out.specs.Operand.{operand_text}
+use Rattle.operand_text.specs.Operand.{operand_text}
 use Rattle.listing_out.proofs.code.put_instruction.Given as goal
 
 abbrev pub invariant-loop-operand : goal.invariant-loop-operand

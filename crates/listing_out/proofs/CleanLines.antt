@@ -1,0 +1,122 @@
+-- The lines of a file that can be read back are clean.
+use Rattle.std.proofs.Common.{◌≡◌, ◌⊎◌, ℕ, zero, suc, ◌<◌, ◌≤◌, Bool, true, false, List, [], ◌∷◌, ◌++◌, Option, Some, None, length, take, drop, map, min, All, refl, sym, ap, subst, ◌∙◌, inl, inr, append_assoc, arith}
+use Rattle.std.proofs.lemmas.Bool.{cond_both}
+use Rattle.std.proofs.lemmas.List.{append-nil, length-drop, length-take, take-append-drop}
+use Rattle.std.proofs.lemmas.List.Elements.{All-head, All-tail}
+use Rattle.std.specs.Prelude.{◌==◌, codes, decimal, option_map}
+use Rattle.std.specs.Char.{is_ascii_alphanumeric}
+use Rattle.std.specs.List.{AllByRecursion, find, flat_map, list_all}
+use Rattle.hex.specs.Hex.{encode_lower}
+use Rattle.bk_codec.specs.Spelling.{IsBytes}
+use Rattle.bk_codec.proofs.Agreement.{IsBytes-drop, IsBytes-front}
+use Rattle.bk_codec.proofs.Steps.{chosen}
+use Rattle.compact_term.specs.declared.operand.Operand.{Operand}
+use Rattle.iff_form.specs.declared.id.Id.{Id}
+use Rattle.iff_form.specs.Text.{id_text, is_plain_id}
+use Rattle.op_table.specs.Instruction.{Instruction}
+use Rattle.op_table.specs.Table.{Row, arity_of, is_name_byte, row_with, table}
+use Rattle.operand_text.specs.Listed.{IsListed}
+use Rattle.operand_text.specs.Operand.{operand_text}
+use Rattle.operand_text.specs.Words.{is_word_byte}
+use Rattle.code_chunk.specs.declared.code.CodeVal.{CodeVal}
+use Rattle.listing_out.specs.Lines.{code_line, extra_text, instruction_line, name_of, payload_lines}
+use Rattle.listing_out.specs.Listable.{CodeIsListed, InstrIsListed}
+use Rattle.listing_out.specs.Listing.{has_text}
+use Rattle.listing_out.proofs.Clean.{IsClean, alphanumeric_word, clean_behind, decimal_word, has_text_ended, hex_some, hex_word, is_inline, is_line_byte, name_byte_word, no_newline, passes_joined, passes_other, word_clean, word_line}
+use Rattle.listing_out.proofs.Raw.{IsReadAs, bare_clean, line_read, none_read}
+use Rattle.listing_out.proofs.Rows.{lines-first}
+
+some_text : (text : List ℕ) → 0 < length text → has_text text ≡ true
+some_text [] some = absurd (omega (arith, some))
+some_text (b ∷ text) some = refl
+
+-- a clean line, and what may be nothing
+clean_before : (front back : List ℕ) → IsClean front → (back ≡ []) ⊎ IsClean back → IsClean (front ++ back)
+clean_before front back clean (inl none) = subst IsClean (sym (append-nil front) ∙ ap (λ (t : List ℕ). front ++ t) (sym none)) clean
+clean_before front back clean (inr behind) = clean_behind front back clean.bytes behind
+
+-- a clean line is read as itself
+pub clean_read : (line : List ℕ) (raws ls : List (List ℕ)) → IsClean line → IsReadAs raws ls → IsReadAs (line ∷ raws) (line ∷ ls)
+clean_read line raws ls clean others =
+    line_read line line raws ls (bare_clean line clean) (has_text_ended line clean.ended) (passes_other is_line_byte is_inline (no_newline is_line_byte refl) line clean.bytes) others
+
+-- ---- ids and payloads
+
+pub id_clean : (id : Id) → length id.0 ≡ 4 → IsBytes id.0 → IsClean (id_text id)
+id_clean id four fits =
+    cond_both (is_plain_id id) id.0 (codes "#" ++ encode_lower id.0) IsClean
+    (λ plain. word_clean id.0 (some_text id.0 (omega (arith, four))) (passes_other is_ascii_alphanumeric is_word_byte alphanumeric_word id.0 plain))
+    (λ other. clean_behind (codes "#") (encode_lower id.0) refl (digits_clean id.0 four fits))
+  where
+    digits_clean : (bytes : List ℕ) → length bytes ≡ 4 → IsBytes bytes → IsClean (encode_lower bytes)
+    digits_clean [] four fits = absurd (omega (arith, four))
+    digits_clean (b ∷ bytes) four fits = word_clean (encode_lower (b ∷ bytes)) (hex_some b bytes) (hex_word (b ∷ bytes) fits)
+
+payload_read_within : (n : ℕ) (payload : List ℕ) → length payload ≤ n → IsBytes payload → IsReadAs (payload_lines payload) (payload_lines payload)
+payload_read_within n [] within fits = none_read
+payload_read_within zero (b ∷ payload) within fits = absurd (omega (arith, within))
+payload_read_within (suc n) (b ∷ payload) within fits =
+    let all = b ∷ payload in
+    let row = take 32 all in
+    let rest = drop 32 all in
+    let parts : all ≡ row ++ rest = sym (take-append-drop 32 all) in
+    let lines = lines-first all row rest parts (length-take 32 all) (omega arith) in
+    let digits = word_clean (encode_lower row) (hex_some b (take 31 payload)) (hex_word row (IsBytes-front row rest (subst IsBytes parts fits))) in
+    let others = payload_read_within n rest (omega (arith, within, length-drop 32 all)) (IsBytes-drop 32 all fits) in
+    subst (λ (ls : List (List ℕ)). IsReadAs ls ls) (sym lines)
+    (clean_read (codes "  " ++ encode_lower row) (payload_lines rest) (payload_lines rest) (clean_behind (codes "  ") (encode_lower row) refl digits) others)
+
+pub payload_read : (payload : List ℕ) → IsBytes payload → IsReadAs (payload_lines payload) (payload_lines payload)
+payload_read payload fits = payload_read_within (length payload) payload (omega arith) fits
+
+-- ---- code
+
+extra_clean : (extra : List ℕ) → IsBytes extra → IsClean (extra_text extra)
+extra_clean [] fits = record { bytes = refl; ended = refl }
+extra_clean (b ∷ extra) fits = word_clean (encode_lower (b ∷ extra)) (hex_some b extra) (hex_word (b ∷ extra) fits)
+
+decimal_line : (n : ℕ) → list_all is_line_byte (decimal n) ≡ true
+decimal_line n = passes_other is_word_byte is_line_byte word_line (decimal n) (decimal_word n)
+
+-- a number and a space behind what stands before
+number_line : (front : List ℕ) (n : ℕ) → list_all is_line_byte front ≡ true → list_all is_line_byte (front ++ decimal n ++ codes " ") ≡ true
+number_line front n h = passes_joined is_line_byte (front ++ decimal n) (codes " ") (passes_joined is_line_byte front (decimal n) h (decimal_line n)) refl
+
+pub code_clean : (c : CodeVal) → IsBytes c.extra → IsClean (code_line c)
+code_clean c fits =
+    let first = codes "code " ++ decimal c.max_op ++ codes " " in
+    let second = first ++ decimal c.labels ++ codes " " in
+    let third = second ++ decimal c.functions ++ codes " " in
+    clean_behind third (extra_text c.extra) (number_line second c.functions (number_line first c.labels (number_line (codes "code ") c.max_op refl))) (extra_clean c.extra fits)
+
+found_holds : {A : Type 0} (test : A → Bool) (P : A → Type 0) (xs : List A) (x : A) → AllByRecursion P xs → find test xs ≡ Some x → P x
+found_holds test P [] x are found = absurd cc
+found_holds test P (y ∷ xs) x are found =
+    elim (chosen (test y) (Some y) (find test xs) (Some x) found) [
+      | inl here ↦ let same : y ≡ x = cc in subst P same are.0
+      | inr later ↦ found_holds test P xs x are.1 later.1
+    ]
+
+-- a name of the table is a word
+abbrev IsWord : Row → Type 0
+IsWord r = (0 < length r.name) × (list_all is_name_byte r.name ≡ true)
+
+name_clean : (o : Option Row) (n : ℕ) → ((r : Row) → o ≡ Some r → IsWord r) → option_map (λ r. r.arity) o ≡ Some n → IsClean (name_of o)
+name_clean None n words arity = absurd cc
+name_clean (Some r) n words arity =
+    let word = words r refl in
+    word_clean r.name (some_text r.name word.0) (passes_other is_name_byte is_word_byte name_byte_word r.name word.1)
+
+module _ (names_are_words : AllByRecursion (λ r. (0 < length r.name) × (list_all is_name_byte r.name ≡ true)) table)
+    (operand_bytes : (o : Operand) → IsListed o → list_all is_word_byte (operand_text o) ≡ true) (operand_some : (o : Operand) → IsListed o → 0 < length (operand_text o)) where
+  operands_clean : (os : List Operand) → All IsListed os → (flat_map (λ o. codes " " ++ operand_text o) os ≡ []) ⊎ IsClean (flat_map (λ o. codes " " ++ operand_text o) os)
+  operands_clean [] are = inl refl
+  operands_clean (o ∷ os) are =
+      let listed = All-head IsListed o os are in
+      let text = word_clean (operand_text o) (some_text (operand_text o) (operand_some o listed)) (operand_bytes o listed) in
+      inr (clean_before (codes " " ++ operand_text o) (flat_map (λ o. codes " " ++ operand_text o) os) (clean_behind (codes " ") (operand_text o) refl text) (operands_clean os (All-tail IsListed o os are)))
+
+  pub instruction_clean : (i : Instruction) → InstrIsListed i → IsClean (instruction_line i)
+  instruction_clean i is =
+      let name = name_clean (row_with i.op) (length i.operands) (λ r. found_holds (λ s. s.op == i.op) IsWord table r names_are_words) is.arity in
+      clean_before (codes "  " ++ name_of (row_with i.op)) (flat_map (λ o. codes " " ++ operand_text o) i.operands) (clean_behind (codes "  ") (name_of (row_with i.op)) refl name) (operands_clean i.operands is.operands)

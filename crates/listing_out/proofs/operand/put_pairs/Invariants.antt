@@ -1,7 +1,0 @@
-use Rattle.std.proofs.Common.{◌≡◌, ◌++◌, codes, take}
-use Rattle.std.specs.List.{flat_map}
-use Rattle.listing_out.specs.Operand.{pair_text}
-use Rattle.listing_out.proofs.operand.put_pairs.Given as goal
-
-abbrev pub invariant-loop-pair : goal.invariant-loop-pair
-invariant-loop-pair l = l.out.items ≡ l.initial.out.items ++ flat_map (λ p. codes "," ++ pair_text p) (take l.pair-index l.others)
