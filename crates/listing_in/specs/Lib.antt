@@ -1,0 +1,10 @@
+pub mod Ids
+pub mod Header
+pub mod Instruction
+pub mod State
+pub mod Open
+pub mod Seen
+pub mod Held
+pub mod Step
+pub mod Reading
+pub mod Wrong
