@@ -3,3 +3,4 @@ pub mod Makes
 pub mod Messages
 pub mod Parts
 pub mod Printed
+pub mod RoundTrips

@@ -1,9 +1,10 @@
 -- Files that are loaded one after another: what is left of the host, and what the answer then is.
 use Rattle.std.proofs.Common.{◌≡◌, ℕ, zero, suc, ◌+◌, ◌<◌, ◌≤◌, List, [], ◌∷◌, ◌++◌, length, map, get_or, Option, Some, None, inl, inr, refl, sym, ap, subst, ◌∙◌, take, drop, take-append-drop, append_assoc, arith}
-use Rattle.std.specs.Prelude.{Any, IfSome, option_map, option_and_then}
+use Rattle.std.specs.Prelude.{All, Any, IfSome, option_map, option_and_then}
 use Rattle.std.specs.List.{AllZip}
 use Rattle.std.proofs.lemmas.Bool.{le-ltb, lt-ltb}
 use Rattle.std.proofs.lemmas.List.{take_more}
+use Rattle.std.proofs.lemmas.List.Elements.{All-nil, All-cons}
 use Rattle.bk_port.specs.Causes.{Rose}
 use Rattle.bk_port.specs.Reading.{IsLeftAfter}
 use Rattle.bk_port.specs.declared.reading.TheConstants.{MOST_BYTES}
@@ -36,6 +37,13 @@ left_next holds names name old between new left (inl same) = subst (λ (o : Opti
 left_next holds names name old between new left (inr part) = left_last holds names name old new (inr part)
 
 -- ---- the first file that is too large
+
+pub loaded_are_sized : (holds : List ℕ → Option (List ℕ)) (names : List (List ℕ)) (files : List LoadedFile) → AllZip (IsLoaded holds) names files → All (λ (f : LoadedFile). length f.bytes.items ≤ MOST_BYTES) files
+loaded_are_sized holds [] [] loaded = All-nil (λ (f : LoadedFile). length f.bytes.items ≤ MOST_BYTES)
+loaded_are_sized holds [] (file ∷ files) loaded = absurd loaded
+loaded_are_sized holds (name ∷ names) [] loaded = absurd loaded
+loaded_are_sized holds (name ∷ names) (file ∷ files) loaded =
+    All-cons (λ (f : LoadedFile). length f.bytes.items ≤ MOST_BYTES) file files loaded.0.size (loaded_are_sized holds names files loaded.1)
 
 small_held : (held : Option (List ℕ)) (bytes : List ℕ) → IfSome held (λ all. bytes ≡ all) → length bytes ≤ MOST_BYTES → IfSome held (λ all. length all ≤ MOST_BYTES)
 small_held None bytes same few = tt

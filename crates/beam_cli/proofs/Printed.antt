@@ -1,5 +1,5 @@
 -- What a command prints is what the grammars say that it prints.
-use Rattle.std.proofs.Common.{◌≡◌, ◌⊎◌, ℕ, List, [], ◌∷◌, ◌++◌, codes, Option, Some, None, Result, Ok, Err, refl, sym, ap, subst, ◌∙◌, inl, inr}
+use Rattle.std.proofs.Common.{◌≡◌, ◌⊎◌, ℕ, List, ◌++◌, codes, Option, Some, None, Result, Ok, Err, refl, sym, ap, subst, ◌∙◌, inl, inr}
 use Rattle.std.specs.Prelude.{◌↔◌}
 use Rattle.std.specs.List.{AllByRecursion}
 use Rattle.bk_codec.specs.Exact.{IsExact}
@@ -30,23 +30,26 @@ use Rattle.ext_term.specs.Text.{term_text}
 use Rattle.beam_module.specs.declared.comparison.Compared.{Compared}
 use Rattle.beam_module.specs.Canonical.{canonical_file}
 use Rattle.beam_module.specs.Comparison.{Compares, comparison}
-use Rattle.beam_module.specs.File.{IsFile}
+use Rattle.beam_module.specs.File.{FileChunk, IsFile}
 use Rattle.beam_module.specs.Name.{IsModuleName, name_of}
 use Rattle.beam_module.specs.Strip.{stripped_file}
 use Rattle.beam_module.specs.Reading.{file_of}
 use Rattle.listing_out.specs.Comments.{commented_listing}
+use Rattle.listing_out.specs.Listable.{IsListable}
+use Rattle.listing_out.specs.Listing.{IsListing}
+use Rattle.listing_in.specs.Reading.{listing_value}
 use Rattle.beam_cli.specs.declared.refusal.Refusal.{Refusal}
 use Rattle.beam_cli.specs.declared.refusal.Refusal.TheVariants.{Form, Table, Side, Term as TermRefused}
 use Rattle.beam_cli.specs.declared.shown.Shown.{Shown}
 use Rattle.beam_cli.specs.declared.shown.Shown.TheVariants as shown
-use Rattle.beam_cli.specs.Reasons.{module_refusal}
+use Rattle.beam_cli.specs.Reasons.{listing_refusal, module_refusal}
 use Rattle.beam_cli.specs.Needs.{chunks_of, found_or, part_at, payload_at}
 use Rattle.beam_cli.specs.Showing.{table_lines, id_of, shown_text, show_output}
-use Rattle.beam_cli.specs.Answer.{canon_output, disasm_output, info_output, strip_output}
+use Rattle.beam_cli.specs.Answer.{asm_output, canon_output, disasm_output, info_output, strip_output}
 use Rattle.beam_cli.specs.Comparing.{NamedForm, cmp_output, compared, comparison_of, name_at, named_form}
 use Rattle.beam_cli.specs.Files.{NamedFile}
 use Rattle.beam_cli.specs.Made.{NamedRefusal, read_of}
-use Rattle.beam_cli.specs.Printing.{HasChunk, HasNamedForm, IsExactOnTwo, IsNamedForm, PrintsCanonical, PrintsDifference, PrintsInfo, PrintsListing, PrintsStripped, PrintsTable, ShowsEntries, ShowsPart, ShowsTable}
+use Rattle.beam_cli.specs.Printing.{HasChunk, HasNamedForm, IsExactOnTwo, IsNamedForm, PrintsAssembled, PrintsCanonical, PrintsDifference, PrintsInfo, PrintsListing, PrintsStripped, PrintsTable, ShowsEntries, ShowsPart, ShowsTable}
 
 -- ---- an answer is a value exactly where something holds of it
 
@@ -154,6 +157,26 @@ canon_printed files =
     let same : (bytes : List ℕ) → IsBytes bytes → Same (canon_output bytes) (λ text. PrintsCanonical text bytes) =
     λ bytes fits. same_then (same_read module_refusal files bytes fits) (λ value is. same_made canonical_file value) in
     exact_on_bytes (λ bytes text fits. (same bytes fits).found text) (λ bytes text fits. (same bytes fits).again text)
+
+-- a text is read as a listing exactly where it is one
+module _ (listings : (text : List ℕ) (v : List FileChunk) → (listing_value text ≡ Ok v) ↔ (IsListable v × IsListing v text)) where
+  same_listed : (text : List ℕ) → Same (refused_as listing_refusal (listing_value text)) (λ v. IsListable v × IsListing v text)
+  same_listed text = record {
+    found = λ v h. (listings text v).0 (refused_as_ok listing_refusal (listing_value text) v h);
+    again = λ v is. let h : listing_value text ≡ Ok v = (listings text v).1 is in rw h refl;
+  }
+
+  pub asm_of_listing : (text : List ℕ) (v : List FileChunk) → IsListable v → IsListing v text → asm_output text ≡ Ok (canonical_file v)
+  asm_of_listing text v able is = let h : listing_value text ≡ Ok v = (listings text v).1 (able, is) in rw h refl
+
+  pub asm_printed : IsExact asm_output PrintsAssembled
+  asm_printed =
+      let same : (text : List ℕ) → Same (asm_output text) (λ file. (v : List FileChunk) × (IsListable v × IsListing v text) × (file ≡ canonical_file v)) =
+      λ text. same_then (same_listed text) (λ v is. same_made canonical_file v) in
+      exact_on_bytes (λ text file fits h. let is = (same text).found file h in (is.0, is.1.0, is.1.1, is.2)) (λ text file fits is. (same text).again file (is.0, (is.1, is.2), is.3))
+
+pub disasm_of_file : IsExact file_of IsFile → (bytes : List ℕ) (v : List FileChunk) → IsBytes bytes → IsFile v bytes → disasm_output bytes ≡ Ok (commented_listing v)
+disasm_of_file files bytes v fits is = let h : file_of bytes ≡ Ok v = (files.accepted bytes v fits).1 is in rw h refl
 
 -- ---- two files
 

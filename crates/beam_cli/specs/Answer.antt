@@ -6,14 +6,14 @@ use Rattle.listing_out.specs.Comments.{commented_listing}
 use Rattle.beam_module.specs.Strip.{stripped_file}
 use Rattle.beam_module.specs.Canonical.{canonical_file}
 use Rattle.beam_cli.specs.declared.command.Command.{Command}
-use Rattle.beam_cli.specs.declared.command.Command.TheVariants.{Info, Show, Disasm, Strip, Canon, Cmp}
+use Rattle.beam_cli.specs.declared.command.Command.TheVariants.{Info, Show, Disasm, Asm, Strip, Canon, Cmp}
 use Rattle.beam_cli.specs.declared.refusal.Refusal.{Refusal}
 use Rattle.beam_cli.specs.declared.status.Status.{Status}
 use Rattle.beam_cli.specs.declared.status.Status.TheVariants.{Done, Refused, Usage, Grammar, TooLarge}
 use Rattle.beam_cli.specs.Words.{Asked, asked_by}
 use Rattle.beam_cli.specs.Files.{NamedFile, file_at, told, too_large}
 use Rattle.beam_cli.specs.Message.{line_about, usage_line, too_large_line, refusal_text}
-use Rattle.beam_cli.specs.Needs.{chunks_of, value_of_file}
+use Rattle.beam_cli.specs.Needs.{chunks_of, listed_value, value_of_file}
 use Rattle.beam_cli.specs.Showing.{show_output}
 use Rattle.beam_cli.specs.Made.{Made, NamedRefusal, prints}
 use Rattle.beam_cli.specs.Comparing.{cmp_output}
@@ -47,6 +47,10 @@ info_output bytes = chunks_of bytes >>= λ chunks. Ok (info_of chunks)
 abbrev pub disasm_output : List ℕ → Result (List ℕ) Refusal
 disasm_output bytes = value_of_file bytes >>= λ value. Ok (commented_listing value)
 
+-- the output of `asm`
+abbrev pub asm_output : List ℕ → Result (List ℕ) Refusal
+asm_output text = listed_value text >>= λ value. Ok (canonical_file value)
+
 -- the output of `strip`
 abbrev pub strip_output : List ℕ → Result (List ℕ) Refusal
 strip_output bytes = chunks_of bytes >>= λ chunks. Ok (stripped_file chunks)
@@ -60,6 +64,7 @@ abbrev pub output_of : Command → List NamedFile → Result Made NamedRefusal
 output_of Info files = prints info_output (file_at files 0)
 output_of (Show what) files = prints (show_output what) (file_at files 0)
 output_of Disasm files = prints disasm_output (file_at files 0)
+output_of Asm files = prints asm_output (file_at files 0)
 output_of Strip files = prints strip_output (file_at files 0)
 output_of Canon files = prints canon_output (file_at files 0)
 output_of Cmp files = cmp_output (file_at files 0) (file_at files 1)

@@ -12,3 +12,4 @@ pub mod Answer
 pub mod Outcome
 pub mod Stopping
 pub mod Printing
+pub mod RoundTrip

@@ -13,8 +13,12 @@ use Rattle.side_tables.specs.declared.refusal.SideRefusal.{SideRefusal}
 use Rattle.side_tables.specs.declared.refusal.SideRefusal.TheVariants as side_refusals
 use Rattle.ext_term.specs.declared.refusal.TermRefusal.{TermRefusal}
 use Rattle.ext_term.specs.declared.refusal.TermRefusal.TheVariants as term_refusals
+use Rattle.listing_in.specs.declared.refusal.ListingRefusal.{ListingRefusal}
+use Rattle.listing_in.specs.declared.refusal.ListingRefusal.TheVariants as listing_refusals
+use Rattle.listing_in.specs.declared.refusal.ListingWhy.{ListingWhy}
+use Rattle.listing_in.specs.declared.refusal.ListingWhy.TheVariants as whys
 use Rattle.beam_cli.specs.declared.refusal.Refusal.{Refusal}
-use Rattle.beam_cli.specs.declared.refusal.Refusal.TheVariants.{Form, Missing, Table, Side, Term, Code, NoMemory}
+use Rattle.beam_cli.specs.declared.refusal.Refusal.TheVariants.{Form, Missing, Table, Side, Term, Code, Listing, NoMemory}
 use Rattle.iff_form.specs.Text.{id_text}
 
 -- a message of this text
@@ -93,6 +97,23 @@ code_refusal_text (code_refusals.Opcode at op) = codes "opcode " ++ (decimal op 
 code_refusal_text (code_refusals.Operand at why) = codes "operand at " ++ (decimal at ++ (codes ": " ++ operand_refusal_text why))
 code_refusal_text code_refusals.NoMemory = codes "out of memory"
 
+-- what is wrong with a line
+abbrev pub why_text : ListingWhy → List ℕ
+why_text whys.Head = codes "head"
+why_text whys.Keyword = codes "keyword"
+why_text whys.Id = codes "id"
+why_text whys.Number = codes "number"
+why_text whys.Hex = codes "hex"
+why_text whys.Short = codes "short"
+why_text whys.Op = codes "op"
+why_text whys.Operands = codes "operands"
+
+-- why a text is no listing
+abbrev pub listing_refusal_text : ListingRefusal → List ℕ
+listing_refusal_text (listing_refusals.Line number why) = codes "line " ++ (decimal number ++ (codes ": " ++ why_text why))
+listing_refusal_text (listing_refusals.Twice number id) = codes "line " ++ (decimal number ++ (codes ": chunk " ++ (id_text id ++ codes " twice")))
+listing_refusal_text listing_refusals.NoMemory = codes "out of memory"
+
 -- why a file is not what a command needs
 abbrev pub refusal_text : Refusal → List ℕ
 refusal_text (Form e) = form_refusal_text e
@@ -101,4 +122,5 @@ refusal_text (Table id e) = id_text id ++ (codes ": " ++ table_refusal_text e)
 refusal_text (Side id e) = id_text id ++ (codes ": " ++ side_refusal_text e)
 refusal_text (Term id e) = id_text id ++ (codes ": " ++ term_refusal_text e)
 refusal_text (Code e) = codes "Code: " ++ code_refusal_text e
+refusal_text (Listing e) = listing_refusal_text e
 refusal_text NoMemory = codes "out of memory"

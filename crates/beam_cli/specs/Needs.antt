@@ -6,10 +6,11 @@ use Rattle.iff_form.specs.Chunk.{PlainChunk}
 use Rattle.iff_form.specs.Form.{payload_of}
 use Rattle.iff_form.specs.Reading.{form_of}
 use Rattle.beam_module.specs.File.{FileChunk}
+use Rattle.listing_in.specs.Reading.{listing_value}
 use Rattle.beam_module.specs.Reading.{file_of}
 use Rattle.beam_cli.specs.declared.refusal.Refusal.{Refusal}
 use Rattle.beam_cli.specs.declared.refusal.Refusal.TheVariants.{Form, Missing}
-use Rattle.beam_cli.specs.Reasons.{module_refusal}
+use Rattle.beam_cli.specs.Reasons.{listing_refusal, module_refusal}
 
 -- the chunks of the form that the file is
 abbrev pub chunks_of : List ℕ → Result (List PlainChunk) Refusal
@@ -30,3 +31,7 @@ part_at why read id chunks = payload_at id chunks >>= λ payload. refused_as why
 -- the value of the file: its form, and the code where there is a chunk for it
 abbrev pub value_of_file : List ℕ → Result (List FileChunk) Refusal
 value_of_file bytes = refused_as module_refusal (file_of bytes)
+
+-- the value of the file that a text lists
+abbrev pub listed_value : List ℕ → Result (List FileChunk) Refusal
+listed_value text = refused_as listing_refusal (listing_value text)

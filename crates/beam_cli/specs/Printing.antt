@@ -20,6 +20,8 @@ use Rattle.beam_module.specs.Name.{IsModuleName}
 use Rattle.beam_module.specs.Comparison.{Compares}
 use Rattle.beam_module.specs.declared.comparison.Compared.{Compared}
 use Rattle.listing_out.specs.Comments.{commented_listing}
+use Rattle.listing_out.specs.Listable.{IsListable}
+use Rattle.listing_out.specs.Listing.{IsListing}
 use Rattle.beam_cli.specs.declared.shown.Shown.{Shown}
 use Rattle.beam_cli.specs.declared.shown.Shown.TheVariants as shown
 use Rattle.beam_cli.specs.declared.refusal.Refusal.{Refusal}
@@ -70,6 +72,10 @@ PrintsTable what text bytes = (chunks : List PlainChunk) × IsForm chunks bytes 
 -- `disasm` prints the listing of the file's value
 abbrev pub PrintsListing : List ℕ → List ℕ → Type 0
 PrintsListing text bytes = (value : List FileChunk) × IsFile value bytes × (text ≡ commented_listing value)
+
+-- `asm` prints the canonical file of the value that the text lists
+abbrev pub PrintsAssembled : List ℕ → List ℕ → Type 0
+PrintsAssembled file text = (value : List FileChunk) × IsListable value × IsListing value text × (file ≡ canonical_file value)
 
 -- `strip` prints the stripped file of the form that the file is
 abbrev pub PrintsStripped : List ℕ → List ℕ → Type 0

@@ -15,8 +15,10 @@ use Rattle.ext_term.specs.declared.refusal.TermRefusal.TheVariants as terms
 use Rattle.beam_module.specs.declared.refusal.ModuleRefusal.{ModuleRefusal}
 use Rattle.beam_module.specs.declared.refusal.ModuleRefusal.TheVariants as modules
 use Rattle.beam_module.specs.declared.refusal.TableWhy.TheVariants as whys
+use Rattle.listing_in.specs.declared.refusal.ListingRefusal.{ListingRefusal}
+use Rattle.listing_in.specs.declared.refusal.ListingRefusal.TheVariants as listings
 use Rattle.beam_cli.specs.declared.refusal.Refusal.{Refusal}
-use Rattle.beam_cli.specs.declared.refusal.Refusal.TheVariants.{Form, Missing, Table, Side, Term, Code, NoMemory}
+use Rattle.beam_cli.specs.declared.refusal.Refusal.TheVariants.{Form, Missing, Table, Side, Term, Code, Listing, NoMemory}
 
 abbrev pub IsReason : Refusal → Type 0
 IsReason (Form forms.NoMemory) = ⊥
@@ -25,6 +27,7 @@ IsReason (Side id sides.NoMemory) = ⊥
 IsReason (Term id terms.NoMemory) = ⊥
 IsReason (Code codes_of.NoMemory) = ⊥
 IsReason (Code (codes_of.Operand at operands.NoMemory)) = ⊥
+IsReason (Listing listings.NoMemory) = ⊥
 IsReason NoMemory = ⊥
 IsReason e = ⊤
 
@@ -54,6 +57,10 @@ side_refusal id e = Side id e
 abbrev pub term_refusal : Id → TermRefusal → Refusal
 term_refusal id terms.NoMemory = NoMemory
 term_refusal id e = Term id e
+
+abbrev pub listing_refusal : ListingRefusal → Refusal
+listing_refusal listings.NoMemory = NoMemory
+listing_refusal e = Listing e
 
 abbrev pub module_refusal : ModuleRefusal → Refusal
 module_refusal (modules.Form e) = form_refusal e

@@ -2,7 +2,7 @@
 use Rattle.std.specs.Prelude.{ℕ, Bool, false, not, ◌==◌, ◌&&◌, ◌||◌, List, [], ◌∷◌, length, codes, bytes_eq, Option, Some, None, option_map, if◌then◌else◌}
 use Rattle.std.specs.List.{list_all}
 use Rattle.beam_cli.specs.declared.command.Command.{Command}
-use Rattle.beam_cli.specs.declared.command.Command.TheVariants.{Info, Show, Disasm, Strip, Canon, Cmp}
+use Rattle.beam_cli.specs.declared.command.Command.TheVariants.{Info, Show, Disasm, Asm, Strip, Canon, Cmp}
 use Rattle.beam_cli.specs.declared.shown.Shown.{Shown}
 use Rattle.beam_cli.specs.declared.shown.Shown.TheVariants.{Atoms, Imports, Exports, Locals, Funs, Literals, Lines, Attributes, Compile}
 
@@ -40,6 +40,7 @@ unfoldable pub command_by : List ℕ → Option Command
 command_by word =
     if bytes_eq word (codes "info") then Some Info
     else if bytes_eq word (codes "disasm") then Some Disasm
+    else if bytes_eq word (codes "asm") then Some Asm
     else if bytes_eq word (codes "strip") then Some Strip
     else if bytes_eq word (codes "canon") then Some Canon
     else None

@@ -17,6 +17,8 @@ pub enum Command {
     Show(Shown),
     /// Lists the chunks, the code as instructions.
     Disasm,
+    /// Assembles the file that a listing lists.
+    Asm,
     /// Writes the file without the chunks that a running node does not want.
     Strip,
     /// Writes the canonical file of the file's value.
@@ -93,6 +95,8 @@ fn command_by(word: &Text) -> Option<Command>
         Some(Command::Info)
     } else if word == b"disasm".as_slice() {
         Some(Command::Disasm)
+    } else if word == b"asm".as_slice() {
+        Some(Command::Asm)
     } else if word == b"strip".as_slice() {
         Some(Command::Strip)
     } else if word == b"canon".as_slice() {

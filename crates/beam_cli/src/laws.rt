@@ -1,12 +1,19 @@
 //! What the commands print, by the grammars alone: the output of a command for the bytes of its files
 //! is a text exactly where these are in the grammar that the command needs, and is that text.
 
+ghost use Rattle.std.specs.Prelude.{◌≡◌, ℕ, List, Ok};
 ghost use Rattle.bk_codec.specs.Exact.{IsExact};
+ghost use Rattle.bk_codec.specs.Spelling.{IsBytes};
+ghost use Rattle.beam_module.specs.Canonical.{canonical_file};
+ghost use Rattle.beam_module.specs.File.{FileChunk, IsFile};
+ghost use Rattle.listing_out.specs.Comments.{commented_listing};
+ghost use Rattle.listing_out.specs.Listable.{IsListable};
+ghost use Rattle.listing_out.specs.Listing.{IsListing};
 ghost use Rattle.beam_cli.specs.declared.shown.Shown.{Shown};
-ghost use Rattle.beam_cli.specs.Answer.{canon_output, disasm_output, info_output, strip_output};
+ghost use Rattle.beam_cli.specs.Answer.{asm_output, canon_output, disasm_output, info_output, strip_output};
 ghost use Rattle.beam_cli.specs.Comparing.{cmp_output};
 ghost use Rattle.beam_cli.specs.Showing.{show_output};
-ghost use Rattle.beam_cli.specs.Printing.{HasNamedForm, IsExactOnTwo, PrintsCanonical, PrintsDifference, PrintsInfo, PrintsListing, PrintsStripped, PrintsTable};
+ghost use Rattle.beam_cli.specs.Printing.{HasNamedForm, IsExactOnTwo, PrintsAssembled, PrintsCanonical, PrintsDifference, PrintsInfo, PrintsListing, PrintsStripped, PrintsTable};
 
 /// `info` prints the ids and sizes of a form, and refuses every file that is none.
 pub fn info_is_exact()
@@ -32,6 +39,28 @@ pub fn disasm_is_exact()
     ensures { IsExact disasm_output PrintsListing }
 {
     beam_module::reading_is_exact();
+}
+
+/// `asm` prints the canonical file of the value that a text lists, and refuses every text that is no
+/// listing.
+pub fn asm_is_exact()
+    ensures { IsExact asm_output PrintsAssembled }
+{
+    listing_in::reading_is_exact();
+}
+
+/// What `disasm` prints of a file is a listing of its value, and of each listing of a value `asm` makes
+/// its canonical file.
+pub fn listings_are_assembled()
+    ensures asm { (text : List ℕ) (v : List FileChunk) → IsListable v → IsListing v text → asm_output text ≡ Ok (canonical_file v) }
+    ensures output { (bytes : List ℕ) (v : List FileChunk) → IsBytes bytes → IsFile v bytes → disasm_output bytes ≡ Ok (commented_listing v) }
+    ensures listable { (bytes : List ℕ) (v : List FileChunk) → IsBytes bytes → IsFile v bytes → IsListable v }
+    ensures listing { (bytes : List ℕ) (v : List FileChunk) → IsBytes bytes → IsFile v bytes → IsListing v (commented_listing v) }
+{
+    listing_in::reading_is_exact();
+    beam_module::reading_is_exact();
+    listing_out::a_file_is_listable();
+    listing_out::listing_is_of_its_file();
 }
 
 /// `strip` prints the stripped file of a form, and refuses every file that is none.

@@ -20,7 +20,8 @@ mod stop;
 
 pub use crate::command::{Command, Request, request_from};
 pub use crate::laws::{
-    canon_is_exact, cmp_is_exact, disasm_is_exact, info_is_exact, show_is_exact, strip_is_exact,
+    asm_is_exact, canon_is_exact, cmp_is_exact, disasm_is_exact, info_is_exact,
+    listings_are_assembled, show_is_exact, strip_is_exact,
 };
 pub use crate::refusal::Refusal;
 pub use crate::running::run;
@@ -35,6 +36,8 @@ use std::io;
 use std::process::ExitCode;
 use std::rt::Env;
 
+#[cfg(test)]
+mod listing_tests;
 #[cfg(test)]
 mod module_payloads;
 #[cfg(test)]

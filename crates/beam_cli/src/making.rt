@@ -1,6 +1,6 @@
 //! Making the output of a command.
 
-ghost use Rattle.std.specs.Prelude.{◌≡◌, ◌+◌, ◌⊎◌, ℕ, List, Result, length, map, IfOk, IfErr, IfSome, OnOk};
+ghost use Rattle.std.specs.Prelude.{◌≡◌, ◌+◌, ◌≤◌, ◌⊎◌, ℕ, All, List, Result, length, map, IfOk, IfErr, IfSome, OnOk};
 ghost use Rattle.bk_codec.specs.Reading.{GivesAll};
 ghost use Rattle.bk_port.specs.Causes.{Rose};
 ghost use Rattle.bk_port.specs.Reading.{HasReadAtMost};
@@ -10,7 +10,7 @@ ghost use Rattle.beam_cli.specs.Asking.{asked};
 ghost use Rattle.beam_cli.specs.Files.{IsFirst, named_file};
 ghost use Rattle.beam_cli.specs.declared.refusal.Refusal.{Refusal};
 ghost use Rattle.beam_cli.specs.Made.{GivesOf, made_of_output, print_read};
-ghost use Rattle.beam_cli.specs.Answer.{made, info_output, disasm_output, strip_output, canon_output, output_of, asked_answer};
+ghost use Rattle.beam_cli.specs.Answer.{made, asm_output, info_output, disasm_output, strip_output, canon_output, output_of, asked_answer};
 ghost use Rattle.beam_cli.specs.Outcome.{SomeLeft};
 ghost use Rattle.beam_cli.specs.Reasons.{IsRefusal};
 ghost use Rattle.beam_cli.specs.Stopping.{HasReason, IsReadFault, IsTooLarge};
@@ -18,7 +18,7 @@ ghost use Rattle.beam_cli.specs.Stopping.{HasReason, IsReadFault, IsTooLarge};
 use crate::command::{Command, Request};
 use crate::comparing::compared;
 use crate::loading::{LoadedFile, load_files};
-use crate::needs::{form_of, value_of_file};
+use crate::needs::{form_of, listed_value, value_of_file};
 use crate::output::Output;
 use crate::refusal::Refusal;
 use crate::showing::show_text;
@@ -46,6 +46,16 @@ fn listing_of(alloc: Global, bytes: &[u8]) -> Result<Bytes, Refusal>
 {
     let value = value_of_file(alloc, bytes)?;
     Ok(listing(alloc, &value)?)
+}
+
+// The output of `asm` for this text.
+fn assembled_of(alloc: Global, text: &[u8]) -> Result<Bytes, Refusal>
+    requires { length text.now ≤ MOST_BYTES }
+    ensures text { GivesAll Refusal.NoMemory (λ text. text.items) result (asm_output text.now) }
+    ensures kind { IfErr result IsRefusal }
+{
+    let value = listed_value(alloc, text)?;
+    Ok(canon(alloc, &value)?)
 }
 
 // The output of `strip` for these bytes.
@@ -84,7 +94,8 @@ fn output_of<'a>(
     command: Command,
     files: &[LoadedFile<'a>],
 ) -> Result<Output, Stop<'a>>
-    requires { length files.now ≡ file_count command }
+    requires count { length files.now ≡ file_count command }
+    requires sizes { All (λ file. length file.bytes.items ≤ MOST_BYTES) files.now }
     ensures { GivesOf made_of_output result (output_of command (map named_file files.now)) }
 {
     match command {
@@ -94,6 +105,7 @@ fn output_of<'a>(
             show_text(alloc, what, files[0].bytes.as_slice()),
         ),
         Command::Disasm => printed(&files[0], listing_of(alloc, files[0].bytes.as_slice())),
+        Command::Asm => printed(&files[0], assembled_of(alloc, files[0].bytes.as_slice())),
         Command::Strip => printed(&files[0], stripped_of(alloc, files[0].bytes.as_slice())),
         Command::Canon => printed(&files[0], canon_of(alloc, files[0].bytes.as_slice())),
         Command::Cmp => compared(alloc, &files[0], &files[1]),

@@ -1,10 +1,11 @@
 //! What commands need of a file.
 
-ghost use Rattle.std.specs.Prelude.{◌≡◌, IfOk, IfErr};
+ghost use Rattle.std.specs.Prelude.{◌≡◌, ◌≤◌, length, IfOk, IfErr};
 ghost use Rattle.bk_codec.specs.Reading.{GivesAll};
+ghost use Rattle.bk_port.specs.declared.reading.TheConstants.{MOST_BYTES};
 ghost use Rattle.beam_module.specs.Canonical.{IsWritable};
 ghost use Rattle.beam_cli.specs.Comparing.{name_at};
-ghost use Rattle.beam_cli.specs.Needs.{chunks_of, payload_at, value_of_file};
+ghost use Rattle.beam_cli.specs.Needs.{chunks_of, listed_value, payload_at, value_of_file};
 ghost use Rattle.beam_cli.specs.Reasons.{IsRefusal};
 ghost use Rattle.beam_cli.specs.Showing.{atoms_at};
 
@@ -13,6 +14,7 @@ use beam_module::{FileVal, module_name, read_file};
 use bk_base::Text;
 use iff_form::{Form, Id, read_form};
 use index_tables::{Atoms, read_atoms};
+use listing_in::read_listing;
 use std::alloc::Global;
 
 /// The form that the bytes are.
@@ -56,6 +58,19 @@ pub fn value_of_file(alloc: Global, bytes: &[u8]) -> Result<FileVal, Refusal>
     match read_file(alloc, bytes) {
         Ok(value) => Ok(value),
         Err(refusal) => Err(Refusal::of_module(refusal)),
+    }
+}
+
+/// The value of the file that a text lists, which has a canonical file.
+pub fn listed_value(alloc: Global, text: &[u8]) -> Result<FileVal, Refusal>
+    requires { length text.now ≤ MOST_BYTES }
+    ensures value { GivesAll Refusal.NoMemory (λ v. v) result (listed_value text.now) }
+    ensures writable { IfOk result IsWritable }
+    ensures kind { IfErr result IsRefusal }
+{
+    match read_listing(alloc, text) {
+        Ok(value) => Ok(value),
+        Err(refusal) => Err(Refusal::of_listing(refusal)),
     }
 }
 

@@ -10,6 +10,7 @@ use compact_term::OperandRefusal;
 use ext_term::TermRefusal;
 use iff_form::{FormRefusal, Id};
 use index_tables::TableRefusal;
+use listing_in::ListingRefusal;
 use side_tables::SideRefusal;
 
 /// Why a file is not in the grammar that a command needs, or that memory ran out. A refusal that is
@@ -28,12 +29,14 @@ pub enum Refusal {
     Term(Id, TermRefusal),
     /// The payload of the chunk `Code` is no code.
     Code(CodeRefusal),
+    /// The text is no listing.
+    Listing(ListingRefusal),
     /// Memory ran out.
     NoMemory,
 }
 
 impl Refusal {
-    ghost use Rattle.beam_cli.specs.Reasons.{IsRefusal, code_refusal, form_refusal, module_refusal, side_refusal, table_refusal, term_refusal};
+    ghost use Rattle.beam_cli.specs.Reasons.{IsRefusal, code_refusal, form_refusal, listing_refusal, module_refusal, side_refusal, table_refusal, term_refusal};
 
     /// A refusal of the form.
     pub(crate) fn of_form(refusal: FormRefusal) -> Refusal
@@ -79,6 +82,17 @@ impl Refusal {
                 ..
             } => Refusal::NoMemory,
             refusal => Refusal::Code(refusal),
+        }
+    }
+
+    /// A refusal of a listing.
+    pub(crate) fn of_listing(refusal: ListingRefusal) -> Refusal
+        ensures as_stated { result ≡ listing_refusal refusal }
+        ensures kind { IsRefusal result }
+    {
+        match refusal {
+            ListingRefusal::NoMemory => Refusal::NoMemory,
+            refusal => Refusal::Listing(refusal),
         }
     }
 

@@ -2,7 +2,7 @@
 
 ghost use Rattle.std.specs.Prelude.{◌≡◌, ◌++◌, List, ℕ, codes};
 ghost use Rattle.bk_port.specs.Writing.{joined};
-ghost use Rattle.beam_cli.specs.Message.{line, line_about, code_refusal_text, form_refusal_text, operand_refusal_text, refusal_text, side_refusal_text, table_refusal_text, term_refusal_text, usage_line, write_fault_line};
+ghost use Rattle.beam_cli.specs.Message.{line, line_about, code_refusal_text, form_refusal_text, listing_refusal_text, why_text, operand_refusal_text, refusal_text, side_refusal_text, table_refusal_text, term_refusal_text, usage_line, write_fault_line};
 ghost use Rattle.iff_form.specs.Text.{id_text};
 ghost use Rattle.beam_cli.specs.Outcome.{IsSaid};
 ghost use Rattle.beam_cli.specs.Stopping.{message_of};
@@ -17,6 +17,7 @@ use ext_term::TermRefusal;
 use iff_form::{FormRefusal, Id, IdText};
 use index_tables::TableRefusal;
 use itoa::Buffer;
+use listing_in::{ListingRefusal, ListingWhy};
 use side_tables::SideRefusal;
 
 // Writes a message of this text. A fault of the sink cuts it short and is passed over.
@@ -199,6 +200,45 @@ fn say_code<E: Sink>(err: &mut E, name: &Text, refusal: CodeRefusal)
     }
 }
 
+// What is wrong with a line, in a word.
+fn why_text(why: ListingWhy) -> &'static [u8]
+    ensures { result.now ≡ why_text why }
+{
+    match why {
+        ListingWhy::Head => b"head",
+        ListingWhy::Keyword => b"keyword",
+        ListingWhy::Id => b"id",
+        ListingWhy::Number => b"number",
+        ListingWhy::Hex => b"hex",
+        ListingWhy::Short => b"short",
+        ListingWhy::Op => b"op",
+        ListingWhy::Operands => b"operands",
+    }
+}
+
+// Writes why a text is no listing.
+fn say_listing<E: Sink>(err: &mut E, name: &Text, refusal: ListingRefusal)
+    ensures { IsSaid E.written E.faults err.old err.new (line_about name.now (listing_refusal_text refusal)) }
+{
+    let mut number = Buffer::new();
+    match refusal {
+        ListingRefusal::Line { number: n, why } => {
+            let n = number.format(n).as_bytes();
+            say_about(err, name, &[b"line ", n, b": ", why_text(why)])
+        }
+        ListingRefusal::Twice { line, id } => {
+            let id = IdText::new(id);
+            let n = number.format(line).as_bytes();
+            say_about(
+                err,
+                name,
+                &[b"line ", n, b": chunk ", id.as_bytes(), b" twice"],
+            )
+        }
+        ListingRefusal::NoMemory => say_about(err, name, &[b"out of memory"]),
+    }
+}
+
 // Writes why a file is not what a command needs.
 fn say_refusal<E: Sink>(err: &mut E, name: &Text, refusal: Refusal)
     ensures { IsSaid E.written E.faults err.old err.new (line_about name.now (refusal_text refusal)) }
@@ -210,6 +250,7 @@ fn say_refusal<E: Sink>(err: &mut E, name: &Text, refusal: Refusal)
         Refusal::Side(id, refusal) => say_side(err, name, IdText::new(id).as_bytes(), refusal),
         Refusal::Term(id, refusal) => say_term(err, name, IdText::new(id).as_bytes(), refusal),
         Refusal::Code(refusal) => say_code(err, name, refusal),
+        Refusal::Listing(refusal) => say_listing(err, name, refusal),
         Refusal::NoMemory => say_about(err, name, &[b"out of memory"]),
     }
 }

@@ -1,4 +1,4 @@
-use crate::module_payloads::{ATOMS, ATTRIBUTES, EXPORTS, IMPORTS, LINES};
+use crate::module_payloads::{ATOMS, ATTRIBUTES, CODE, EXPORTS, IMPORTS, LINES};
 use crate::tests::{SAMPLE, call, call_on, form, moving};
 use std::alloc::Global;
 use std::process::Abort;
@@ -10,23 +10,21 @@ AtU8\0\0\0\x06\0\0\0\x01\x01m\xff\xff\
 Code\0\0\0\x15\0\0\0\x10\0\0\0\0\0\0\0\x03\0\0\0\x01\0\0\0\0\x03\xff\0\xff\
 StrT\0\0\0\0";
 
-// Code of three functions, in which some operands have longer spellings than they need.
-const CODE: &[u8] = b"\0\0\0\x10\0\0\0\0\0\0\0\x99\0\0\0\x07\0\0\0\x03\
+// The module's code, in which some operands have longer spellings than they need.
+const LONG_CODE: &[u8] = b"\0\0\0\x10\0\0\0\0\0\0\0\x99\0\0\0\x07\0\0\0\x03\
 \x01\x08\x01\x99\x10\x02\x12\x22\x18\x00\x01\x01\x20\x0c\x10\x10\x40\x03\x04\x99\x20\x04\x00\x45\
 \x10\x20\x10\x45\x04\x03\x03\x12\x10\x13\x01\x30\x99\x00\x02\x12\x42\x00\x01\x40\x40\x12\x03\x4e\
 \x10\x00\x01\x50\x99\x00\x02\x12\x42\x10\x01\x60\x40\x03\x0b\x01\x40\x12\x03\x4e\x20\x10\x03";
-
-// The same code in its canonical spelling.
-const CANONICAL_CODE: &[u8] = b"\0\0\0\x10\0\0\0\0\0\0\0\x99\0\0\0\x07\0\0\0\x03\
-\x01\x10\x99\x10\x02\x12\x22\x10\x01\x20\x0c\x10\x10\x40\x03\x04\x99\x20\x04\x00\x45\
-\x10\x20\x10\x45\x04\x03\x03\x12\x10\x13\x01\x30\x99\x00\x02\x12\x42\x00\x01\x40\x40\x12\x03\x4e\
-\x10\x00\x01\x50\x99\x00\x02\x12\x42\x10\x01\x60\x40\x03\x13\x40\x12\x03\x4e\x20\x10\x03";
 
 // The lines of the module, of which the second is another.
 const MOVED_LINES: &[u8] = b"\0\0\0\0\0\0\0\0\0\0\0\x04\0\0\0\x02\0\0\0\01Q";
 
 // A module of three functions, with this code and these lines.
-fn module_with<'x>(alloc: Global, code: &'x [u8], lines: &'x [u8]) -> Result<Vec<u8>, Fail> {
+pub(crate) fn module_with<'x>(
+    alloc: Global,
+    code: &'x [u8],
+    lines: &'x [u8],
+) -> Result<Vec<u8>, Fail> {
     form(
         alloc,
         &[
@@ -44,7 +42,7 @@ fn module_with<'x>(alloc: Global, code: &'x [u8], lines: &'x [u8]) -> Result<Vec
 
 // The canonical file of this module.
 fn module(alloc: Global) -> Result<Vec<u8>, Fail> {
-    let file = module_with(alloc, CODE, LINES)?;
+    let file = module_with(alloc, LONG_CODE, LINES)?;
     let canonical = call(alloc, &["canon", "F"], file.as_slice(), 1000)?;
     let mut bytes = Vec::new(alloc);
     bytes.extend_from_slice(canonical.out.written())?;
@@ -54,7 +52,7 @@ fn module(alloc: Global) -> Result<Vec<u8>, Fail> {
 #[test]
 fn files_are_written_in_their_canonical_spelling(rt: HostRuntime) -> Result<(), Fail> {
     let file = module(rt.alloc())?;
-    let expected = module_with(rt.alloc(), CANONICAL_CODE, LINES)?;
+    let expected = module_with(rt.alloc(), CODE, LINES)?;
     assert_eq!(rt; file.as_slice(), expected.as_slice());
     assert_eq!(rt; file.len(), 344);
     let told = call(rt.alloc(), &["info", "F"], file.as_slice(), 1000)?;
@@ -112,19 +110,17 @@ fn operands_are_written_in_their_shortest_spelling(rt: HostRuntime) -> Result<()
     Ok(())
 }
 
-// Compares two files, and the status, the output and the message with what is expected.
-fn differs(
-    rt: &(impl Abort + AllocGlobal),
-    first: &[u8],
-    second: &[u8],
-    status: u8,
-    output: &str,
-    message: &str,
-) -> Result<(), Fail> {
-    let found = call_on(rt.alloc(), &["cmp", "F", "G"], &[first, second], 100)?;
-    assert_eq!(rt; found.status.code(), status, "at {output} {message}");
-    assert_eq!(rt; found.out.written(), output.as_bytes());
-    assert_eq!(rt; found.err.written(), message.as_bytes());
+// Two files, and the status, the output and the message of `cmp` on them.
+type Pair<'a> = (&'a [u8], &'a [u8], u8, &'a str, &'a str);
+
+// Compares what `cmp` says of two files with what is expected.
+fn differs(rt: &(impl Abort + AllocGlobal), pairs: &[Pair<'_>]) -> Result<(), Fail> {
+    for (first, second, status, output, message) in pairs {
+        let found = call_on(rt.alloc(), &["cmp", "F", "G"], &[*first, *second], 100)?;
+        assert_eq!(rt; found.status.code(), *status, "at {output} {message}");
+        assert_eq!(rt; found.out.written(), output.as_bytes());
+        assert_eq!(rt; found.err.written(), message.as_bytes());
+    }
     Ok(())
 }
 
@@ -137,7 +133,7 @@ fn named(alloc: Global, chunks: &[(&[u8], &[u8])]) -> Result<Vec<u8>, Fail> {
 }
 
 #[test]
-fn what_differs_is_told(rt: HostRuntime) -> Result<(), Fail> {
+fn stripped_modules_differ(rt: HostRuntime) -> Result<(), Fail> {
     let alloc = rt.alloc();
     let file = module(alloc)?;
     let own = file.as_slice();
@@ -146,34 +142,36 @@ fn what_differs_is_told(rt: HostRuntime) -> Result<(), Fail> {
     let told = call(alloc, &["info", "F"], bytes, 1000)?;
     let kept = "form 276\nAtU8 44\nCode 87\nStrT 0\nImpT 28\nExpT 40\nLine 22\n";
     assert_eq!(rt; told.out.written(), kept.as_bytes());
-    differs(&rt, bytes, own, 1, "different ids: Attr\n", "")?;
-    differs(&rt, own, bytes, 1, "different ids: Attr\n", "")?;
-    differs(&rt, own, own, 0, "same\n", "")?;
-    let moved = module_with(alloc, CODE, MOVED_LINES)?;
+    let moved = module_with(alloc, LONG_CODE, MOVED_LINES)?;
     let moved = call(alloc, &["canon", "F"], moved.as_slice(), 1000)?;
     differs(
         &rt,
-        own,
-        moved.out.written(),
-        1,
-        "different chunk: Line\n",
-        "",
-    )?;
+        &[
+            (bytes, own, 1, "different ids: Attr\n", ""),
+            (own, bytes, 1, "different ids: Attr\n", ""),
+            (own, own, 0, "same\n", ""),
+            (own, moved.out.written(), 1, "different chunk: Line\n", ""),
+        ],
+    )
+}
+
+#[test]
+fn what_differs_is_told(rt: HostRuntime) -> Result<(), Fail> {
+    let alloc = rt.alloc();
     let first = named(alloc, &[(b"CInf", b"a"), (b"Zzzz", b"1"), (b"Abcd", b"1")])?;
     let second = named(alloc, &[(b"Abcd", b"2"), (b"CInf", b"b"), (b"Zzzz", b"2")])?;
     let third = named(alloc, &[(b"Zzzz", b"1"), (b"Abcd", b"1")])?;
     let fourth = named(alloc, &[(b"Zzzz", b"1"), (b"Abcd", b"1"), (b"CInf", b"b")])?;
-    differs(&rt, first.as_slice(), third.as_slice(), 0, "same\n", "")?;
-    differs(&rt, first.as_slice(), fourth.as_slice(), 0, "same\n", "")?;
+    let (first, second) = (first.as_slice(), second.as_slice());
     differs(
         &rt,
-        first.as_slice(),
-        second.as_slice(),
-        1,
-        "different chunk: Abcd\n",
-        "",
-    )?;
-    differs(&rt, first.as_slice(), own, 1, "different ids: Abcd\n", "")
+        &[
+            (first, third.as_slice(), 0, "same\n", ""),
+            (first, fourth.as_slice(), 0, "same\n", ""),
+            (first, second, 1, "different chunk: Abcd\n", ""),
+            (first, SAMPLE, 1, "different ids: Abcd\n", ""),
+        ],
+    )
 }
 
 #[test]
@@ -182,43 +180,30 @@ fn the_first_file_is_refused_before_the_second(rt: HostRuntime) -> Result<(), Fa
     let none = form(alloc, &[(b"StrT", b"")])?;
     let nameless = form(alloc, &[(b"AtU8", b"\0\0\0\0")])?;
     let other = form(alloc, &[(b"AtU8", b"\0\0\0\x01\x01n")])?;
-    let bad = b"".as_slice();
-    differs(
-        &rt,
-        SAMPLE,
-        other.as_slice(),
-        1,
-        "different module names\n",
-        "",
-    )?;
-    differs(
-        &rt,
-        bad,
-        none.as_slice(),
-        3,
-        "",
-        "beamkit: F: not a BEAM file\n",
-    )?;
-    differs(
-        &rt,
-        none.as_slice(),
-        bad,
-        3,
-        "",
-        "beamkit: F: no chunk AtU8\n",
-    )?;
-    differs(
-        &rt,
-        nameless.as_slice(),
-        bad,
-        3,
-        "",
-        "beamkit: F: no chunk AtU8\n",
-    )?;
-    differs(&rt, SAMPLE, bad, 3, "", "beamkit: G: not a BEAM file\n")?;
     let large = vec![in alloc; 0u8; 16_777_217]?;
-    let first = "beamkit: F: more than 16777216 bytes\n";
-    let second = "beamkit: G: more than 16777216 bytes\n";
-    differs(&rt, bad, large.as_slice(), 6, "", second)?;
-    differs(&rt, large.as_slice(), large.as_slice(), 6, "", first)
+    let (bad, none, large) = (b"".as_slice(), none.as_slice(), large.as_slice());
+    differs(
+        &rt,
+        &[
+            (SAMPLE, other.as_slice(), 1, "different module names\n", ""),
+            (bad, none, 3, "", "beamkit: F: not a BEAM file\n"),
+            (none, bad, 3, "", "beamkit: F: no chunk AtU8\n"),
+            (
+                nameless.as_slice(),
+                bad,
+                3,
+                "",
+                "beamkit: F: no chunk AtU8\n",
+            ),
+            (SAMPLE, bad, 3, "", "beamkit: G: not a BEAM file\n"),
+            (bad, large, 6, "", "beamkit: G: more than 16777216 bytes\n"),
+            (
+                large,
+                large,
+                6,
+                "",
+                "beamkit: F: more than 16777216 bytes\n",
+            ),
+        ],
+    )
 }

@@ -1,12 +1,14 @@
-use Rattle.std.proofs.Common.{List, map, ap, length, ◌∙◌, subst}
+use Rattle.std.proofs.Common.{◌≤◌, List, map, ap, length, ◌∙◌, subst, sym}
+use Rattle.std.specs.Prelude.{All}
 use Rattle.std.proofs.lemmas.Result.{err_from_is_err_and}
 use Rattle.bk_port.specs.Causes.{Rose}
+use Rattle.bk_port.specs.declared.reading.TheConstants.{MOST_BYTES}
 use Rattle.beam_cli.specs.declared.loading.LoadedFile.{LoadedFile}
 use Rattle.beam_cli.specs.Asking.{asked}
 use Rattle.beam_cli.specs.Files.{named_file}
 use Rattle.beam_cli.specs.Made.{GivesOf, made_of_output}
 use Rattle.beam_cli.specs.Answer.{output_of}
-use Rattle.beam_cli.proofs.Loads.{loaded_as_long}
+use Rattle.beam_cli.proofs.Loads.{loaded_are_sized, loaded_as_long}
 use Rattle.beam_cli.proofs.Makes.{load_fault, load_reason, make_ok, make_reason}
 use Rattle.beam_cli.proofs.making.make.Goals as goal
 
@@ -22,8 +24,12 @@ returns-in_err-files-clause-read_fault g c =
     rw (p.1, p.2)
     (load_fault (g.H.Host.holds c.args.host.now) (λ n. Rose (g.H.Host.faults c.args.host.now n) (g.H.Host.faults c.load_files.new.host n)) c.args.request.names.now c.in_err-files.field-0.0 c.in_err-files.ensures.reason)
 
-pub output_of-requires : goal.output_of-requires
-output_of-requires g c = ap length c.as_slice.ensures.value ∙ loaded_as_long (g.H.Host.holds c.args.host.now) c.args.request.names.now c.in_ok-files.files.items c.in_ok-files.ensures.loaded ∙ c.requires
+pub output_of-requires-clause-sizes : goal.output_of-requires-clause-sizes
+output_of-requires-clause-sizes g c =
+    subst (All (λ (f : LoadedFile). length f.bytes.items ≤ MOST_BYTES)) (sym c.as_slice.ensures.value) (loaded_are_sized (g.H.Host.holds c.args.host.now) c.args.request.names.now c.in_ok-files.files.items c.in_ok-files.ensures.loaded)
+
+pub output_of-requires-clause-count : goal.output_of-requires-clause-count
+output_of-requires-clause-count g c = ap length c.as_slice.ensures.value ∙ loaded_as_long (g.H.Host.holds c.args.host.now) c.args.request.names.now c.in_ok-files.files.items c.in_ok-files.ensures.loaded ∙ c.requires
 
 pub returns-clause-ok : goal.returns-clause-ok
 returns-clause-ok g c =
