@@ -61,6 +61,16 @@ def block(n):
     ))
 
 
+def names(atoms, imports):
+    """The chunks of an atom table and an import table with so many entries."""
+    texts = [b"atom_%d" % n for n in range(1, atoms + 1)]
+    entries = [struct.pack(">3I", n % atoms + 1, n * 7 % atoms + 1, n % 20) for n in range(imports)]
+    return [
+        (b"AtU8", struct.pack(">I", atoms) + b"".join(bytes([len(t)]) + t for t in texts)),
+        (b"ImpT", struct.pack(">I", imports) + b"".join(entries)),
+    ]
+
+
 def code(instructions, functions):
     """The payload of a chunk of code."""
     return struct.pack(">5I", 16, 0, 182, 60_001, functions) + instructions + b"\x03"

@@ -1,7 +1,8 @@
 #!/bin/sh
 # Compares `info`, `show` and `strip` with what Erlang's own beam_lib says of installed .beam files, and
-# sees that `disasm` lists each of them, that each is its own `canon`, and that `cmp` finds it the same as
-# itself. Literals are packed in these files, so `show literals` is also
+# the instructions in `disasm` with those of beam_disasm, by their names, order and count. It sees that
+# `asm` of what `disasm` prints gives the file back, that each is its own `canon`, and that `cmp` finds it
+# the same as itself. Literals are packed in these files, so `show literals` is also
 # compared for forms that are made of them and hold the same literals unpacked, and for a form of made
 # literals. It is skipped where Erlang is missing.
 # Words: files, or none for those below /usr/lib and /usr/local/lib.
@@ -48,17 +49,30 @@ compare() {
     fi
 }
 
+# Compares the names of the instructions in the listing.
+compare_names() {
+    awk '/^code /{code=1} /^chunk /{code=0} code && /^  /{print $1}' "$folder/listing" >"$folder/listed"
+    if cmp -s "$folder/listed" "$1"; then same=$((same + 1)); else
+        differ=$((differ + 1))
+        echo "differs: instructions of $beam"
+        cmp "$folder/listed" "$1" 2>&1 | sed 's|^|  |'
+    fi
+}
+
 count=0
-for file in "$@"; do
+for beam in "$@"; do
     count=$((count + 1))
-    compare any "$file" disasm
-    compare "$file" "$file" canon
-    compare "$folder/same" "$file" cmp "$file"
-    compare "$folder/$count.strip" "$file" strip
-    compare "$folder/$count.info" "$file" info
+    compare any "$beam" disasm
+    cp "$folder/own" "$folder/listing"
+    compare "$beam" "$folder/listing" asm
+    compare_names "$folder/$count.names"
+    compare "$beam" "$beam" canon
+    compare "$folder/same" "$beam" cmp "$beam"
+    compare "$folder/$count.strip" "$beam" strip
+    compare "$folder/$count.info" "$beam" info
     for what in atoms imports exports locals funs literals lines attributes compile; do
         if [ -f "$folder/$count.$what" ]; then
-            compare "$folder/$count.$what" "$file" show $what
+            compare "$folder/$count.$what" "$beam" show $what
         else
             skipped=$((skipped + 1))
         fi

@@ -1,5 +1,6 @@
 #!/usr/bin/env escript
-%% Prints what `info`, `show` and `strip` should print of each file, as Erlang's own beam_lib tells it.
+%% Prints what `info`, `show` and `strip` should print of each file, as Erlang's own beam_lib tells it, and
+%% the names of its instructions in order, as beam_disasm tells them.
 %% Words: the folder for the outputs, and the files. Output N of a command stands in FOLDER/N.COMMAND.
 %% FOLDER/N.beam is a form with the literals of file N unpacked, and FOLDER/N.plain what is to be shown
 %% of them; made.beam and made.plain are the same for literals that are made here.
@@ -27,7 +28,8 @@ one(Folder, N, File) ->
     term(Folder, N, Chunks, "attributes", "Attr"),
     term(Folder, N, Chunks, "compile", "CInf"),
     literals(Folder, N, Chunks),
-    stripped(Folder, N, Bytes, Chunks).
+    stripped(Folder, N, Bytes, Chunks),
+    instructions(Folder, N, File).
 
 %% The chunks that beam_lib keeps where it strips a file, with its payloads, in the order of the file.
 %% (It writes them gzipped and in an order of its own.)
@@ -39,6 +41,23 @@ stripped(Folder, N, Bytes, Chunks) ->
     Body = [<<"BEAM">> | [[Id, <<(byte_size(Payload)):32>>, Payload, <<0:(-byte_size(Payload) band 3 * 8)>>]
                           || {Id, Payload} <- InOrder]],
     ok = file:write_file(path(Folder, N, "strip"), [<<"FOR1", (iolist_size(Body)):32>>, Body]).
+
+%% The names of the instructions. beam_disasm drops the last one, writes those of tests, built-in functions
+%% and float arithmetic behind a tag, and turns the label and the line before a func_info but the first round.
+instructions(Folder, N, File) ->
+    {beam_file, _, _, _, _, Functions} = beam_disasm:file(File),
+    put_text(Folder, N, "names",
+             [[[instruction(I), $\n] || {function, _, _, _, Is} <- Functions, I <- turned(Is)], "int_code_end\n"]).
+
+turned([{line, _} = Line, {label, _} = Label, {func_info, _, _, _} = Info | Is]) -> [Label, Line, Info | Is];
+turned(Is) -> Is.
+
+instruction(I) when is_atom(I) -> atom_to_list(I);
+instruction(I) when element(1, I) =:= test -> atom_to_list(element(2, I));
+instruction({bif, _, _, Args, _}) -> ["bif", integer_to_list(length(Args))];
+instruction({gc_bif, _, _, _, Args, _}) -> ["gc_bif", integer_to_list(length(Args))];
+instruction({arithfbif, Name, _, _, _}) -> atom_to_list(Name);
+instruction(I) -> atom_to_list(element(1, I)).
 
 %% beam_lib sorts the imports; the payload gives their order.
 in_file(Bytes, Imports) ->
