@@ -1,6 +1,6 @@
 //! Lists of items.
 
-ghost use Rattle.std.specs.Prelude.{◌≡◌, ◌↔◌, [], ◌∷◌, ◌++◌, length, slice_get, IsTrue, OnOk, OnErr, option_copied};
+ghost use Rattle.std.specs.Prelude.{◌≡◌, ◌↔◌, [], ◌∷◌, ◌++◌, ◌<◌, length, slice_get, slice_set, IsTrue, OnOk, OnErr, option_copied};
 
 use crate::memory::NoMemory;
 use std::alloc::Global;
@@ -48,6 +48,16 @@ impl<T> ItemList<T> {
         ensures { option_copied result ≡ slice_get self.now i }
     {
         self.items.get(i)
+    }
+
+    /// Puts an item in the place of item `i`, counted from 0.
+    pub fn set(&mut self, i: usize, item: T)
+    where
+        T: Drop,
+        requires { i < length self.old }
+        ensures { self.new ≡ slice_set self.old i item }
+    {
+        self.items[i] = item;
     }
 
     /// The items.

@@ -6,6 +6,7 @@ mod bytes;
 mod cursor;
 mod item_list;
 mod memory;
+mod tag_kind;
 mod text;
 mod word_list;
 
@@ -14,6 +15,7 @@ pub use bytes::Bytes;
 pub use cursor::Cursor;
 pub use item_list::ItemList;
 pub use memory::NoMemory;
+pub use tag_kind::TagKind;
 pub use text::{Text, TextFault};
 pub use word_list::WordList;
 

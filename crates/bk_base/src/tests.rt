@@ -35,6 +35,20 @@ fn words_are_text(rt: HostRuntime) -> Result<(), Fail> {
 }
 
 #[test]
+fn an_item_is_put_in_the_place_of_another(rt: HostRuntime) -> Result<(), Fail> {
+    let mut items = ItemList::new(rt.alloc());
+    items.push(TagKind::Try)?;
+    items.push(TagKind::Try)?;
+    items.push(TagKind::Try)?;
+    items.set(1, TagKind::Catch);
+    assert_eq!(rt;
+        items.as_slice(),
+        [TagKind::Try, TagKind::Catch, TagKind::Try].as_slice()
+    );
+    Ok(())
+}
+
+#[test]
 fn a_cursor_reads_from_the_front(rt: HostRuntime) -> Result<(), Fail> {
     let mut cursor = Cursor::new(&[1, 0, 2, 0, 0, 1, 0, 9]);
     assert_eq!(rt; cursor.byte(), Some(1));
