@@ -16,7 +16,7 @@ pub struct Chunk<'a> {
     pub at: usize,
 }
 
-// How many bytes fill up a payload to a multiple of four.
+/// How many bytes fill up a payload to a multiple of four.
 pub(crate) fn padding(size: usize) -> usize
     ensures { result ≡ padding_of size }
 {
