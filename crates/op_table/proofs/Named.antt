@@ -2,14 +2,14 @@
 use Rattle.std.proofs.Common.{◌≡◌, ◌↔◌, map, ℕ, ◌<◌, Bool, true, false, eqb, ltb, ◌&&◌, List, [], ◌∷◌, length, Option, Some, None, refl, sym, ap, ◌∙◌, inl, inr}
 use Rattle.std.specs.Bool.{Decides}
 use Rattle.std.specs.List.{find, list_all, position_or_len, AllByRecursion}
-use Rattle.std.specs.Option.{IsNone, option_copied, option_map}
+use Rattle.std.specs.Option.{IfSome, IsNone, option_copied, option_map}
 use Rattle.std.specs.Str.{bytes_eq}
 use Rattle.std.proofs.lemmas.Bool.{and_parts, cases_Bool, eqb-true, ltb-true, false_from_ne_true}
 use Rattle.std.proofs.lemmas.List.Folds.{find_at}
 use Rattle.std.proofs.lemmas.Slice.Eq.{bytes_eq-Decides}
 use Rattle.std.specs.Borrow.{Bor}
 use Rattle.op_table.specs.declared.row.OpRow.{OpRow}
-use Rattle.op_table.specs.Table.{Row, table, is_name_byte, row_of, row_with, row_named}
+use Rattle.op_table.specs.Table.{Row, arity_of, table, is_name_byte, row_of, row_with, row_named}
 use Rattle.op_table.proofs.Numbered.{row_with-own}
 
 -- what is found passes the test
@@ -57,6 +57,14 @@ named_row op r found = named (row_named r.name) refl (found_all (λ q. eqb q.op 
 
 pub numbered_row : (name : List ℕ) (r : Row) → row_named name ≡ Some r → row_with r.op ≡ Some r
 numbered_row name r found = row_with-own (position_or_len (λ x. bytes_eq x.name name) table) r (sym (find_at (λ x. bytes_eq x.name name) table) ∙ found)
+
+pub own_number : (op : ℕ) (r : Row) → row_with op ≡ Some r → r.op ≡ op
+own_number op r found = eqb-true r.op op (found_passes (λ q. eqb q.op op) table r found)
+
+-- the number of operands of the row with a name
+pub named_arity : (name : List ℕ) (r : Option (Bor OpRow)) → option_map row_of (option_copied r) ≡ row_named name → IfSome r (λ x. arity_of x.now.op ≡ Some x.now.arity)
+named_arity name None row = tt
+named_arity name (Some x) row = ap (option_map (λ (q : Row). q.arity)) (numbered_row name (row_of x.now) (sym row))
 
 pub name_is : (name : List ℕ) (r : Row) → row_named name ≡ Some r → r.name ≡ name
 name_is name r found = (bytes_eq-Decides r.name name).0 (found_passes (λ x. bytes_eq x.name name) table r found)
@@ -109,13 +117,9 @@ are_words : list_all (λ r. is_word r.name) table ≡ true
 unfolding is_word table
 are_words = refl
 
-each_is_word : (rows : List Row) → list_all (λ r. is_word r.name) rows ≡ true → AllByRecursion (λ r. (0 < length r.name) × (list_all is_name_byte r.name ≡ true)) rows
+pub name_word : (op : ℕ) (r : Row) → row_with op ≡ Some r → (0 < length r.name) × (list_all is_name_byte r.name ≡ true)
 unfolding is_word
-each_is_word [] all = tt
-each_is_word (r ∷ rows) all =
-    let parts = and_parts (is_word r.name) (list_all (λ q. is_word q.name) rows) all in
-    let word = and_parts (ltb 0 (length r.name)) (list_all is_name_byte r.name) parts.0 in
-    ((ltb-true 0 (length r.name) word.0, word.1), each_is_word rows parts.1)
-
-pub names_words : AllByRecursion (λ r. (0 < length r.name) × (list_all is_name_byte r.name ≡ true)) table
-names_words = each_is_word table are_words
+name_word op r found =
+    let word = found_all (λ q. eqb q.op op) (λ q. is_word q.name) table r are_words found in
+    let parts = and_parts (ltb 0 (length r.name)) (list_all is_name_byte r.name) word in
+    (ltb-true 0 (length r.name) parts.0, parts.1)

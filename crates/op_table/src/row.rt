@@ -52,6 +52,7 @@ pub fn op_row(op: u8) -> Option<&'static OpRow>
 /// The row of the opcode with this name, if there is one.
 pub fn op_by_name(name: &[u8]) -> Option<&'static OpRow>
     ensures row { option_map row_of (option_copied result) ≡ row_named name.now }
+    ensures arity { IfSome result (λ r. arity_of r.now.op ≡ Some r.now.arity) }
     ensures none { IsNone result ↔ AllByRecursion (λ r. r.name ≡ name.now → ⊥) table }
 {
     rows().iter().find(|r| r.name.as_bytes() == name)
