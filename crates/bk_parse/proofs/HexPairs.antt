@@ -2,6 +2,7 @@
 use Rattle.std.proofs.Common.{◌≡◌, ℕ, suc, ◌+◌, ◌*◌, ◌/◌, ◌%◌, ◌<◌, Bool, true, false, ◌||◌, ◌==◌, List, [], ◌∷◌, slice_index, Option, Some, None, Result, Ok, Err, refl, sym, ap, ap₂, ◌∙◌, arith, inl, inr}
 use Rattle.std.proofs.lemmas.Bool.{agree_below_at, or_parts, or_from, eqb-true}
 use Rattle.std.proofs.lemmas.Bool.Decides.{nat_tests}
+use Rattle.std.proofs.lemmas.Option.{same_Some}
 use Rattle.std.specs.Char.{is_ascii_uppercase}
 use Rattle.std.specs.List.{list_any}
 use Rattle.std.specs.Result.{result_ok}
@@ -12,7 +13,6 @@ use Rattle.bk_codec.proofs.Steps.{chosen}
 use Rattle.bk_codec.specs.Spelling.{IsBytes}
 use Rattle.bk_parse.specs.Inverse.{Inverts}
 use Rattle.bk_parse.specs.HexBytes.{bytes_of}
-use Rattle.bk_parse.proofs.Options.{some_is}
 
 -- ---- digits
 
@@ -85,7 +85,7 @@ encoded_lower (b ∷ bytes) h =
 -- ---- texts
 
 ok_some : {A E : Type 0} (r : Result A E) (x : A) → result_ok r ≡ Some x → r ≡ Ok x
-ok_some (Ok y) x e = ap (λ (z : _). Ok z) (some_is y x e)
+ok_some (Ok y) x e = ap (λ (z : _). Ok z) (same_Some y x e)
 ok_some (Err d) x e = absurd cc
 
 bytes_found : (t bytes : List ℕ) → bytes_of t ≡ Some bytes → IsBytes bytes × (encode_lower bytes ≡ t)

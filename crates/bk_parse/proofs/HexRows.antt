@@ -2,6 +2,7 @@
 use Rattle.std.proofs.Common.{◌≡◌, ℕ, false, ◌+◌, ◌*◌, ◌/◌, ◌%◌, ◌⊎◌, List, [], ◌∷◌, ◌++◌, length, min, Option, Some, None, option_map, option_and_then, Result, Ok, Err, refl, sym, ap, ◌∙◌, arith, append-nil, append_assoc, inl, inr}
 use Rattle.std.proofs.lemmas.Bool.{cases_eq, cases_lt, cond-false}
 use Rattle.std.proofs.lemmas.List.{nil_from_length, length-append}
+use Rattle.std.proofs.lemmas.Option.{same_Some}
 use Rattle.std.specs.Char.{is_ascii_uppercase}
 use Rattle.std.specs.List.{list_any}
 use Rattle.std.specs.Result.{result_ok}
@@ -12,7 +13,7 @@ use Rattle.bk_parse.specs.Answer.{Appends}
 use Rattle.bk_parse.specs.HexBytes.{bytes_of}
 use Rattle.bk_parse.specs.declared.refusal.TextRefusal.{TextRefusal}
 use Rattle.bk_parse.specs.declared.refusal.TextRefusal.TheVariants as refusals
-use Rattle.bk_parse.proofs.Options.{some_is, map_some}
+use Rattle.bk_parse.proofs.Options.{map_some}
 
 -- the bytes of pairs of digits, in either case
 abbrev bytes_in : List ℕ → Option (List ℕ)
@@ -69,7 +70,7 @@ before_more : (high low : Option ℕ) (others more o : Option (List ℕ)) (bytes
     → before high low others ≡ Some bytes → before high low more ≡ option_map (λ m. bytes ++ m) o
 before_more (Some h) (Some l) (Some bs) more o bytes behind e =
     ap (option_map (λ x. (h * 16 + l) ∷ x)) (behind bs refl) ∙ in_front o (h * 16 + l) bs
-    ∙ ap (λ (front : List ℕ). option_map (λ m. front ++ m) o) (some_is ((h * 16 + l) ∷ bs) bytes e)
+    ∙ ap (λ (front : List ℕ). option_map (λ m. front ++ m) o) (same_Some ((h * 16 + l) ∷ bs) bytes e)
 before_more (Some h) (Some l) None more o bytes behind e = absurd cc
 before_more (Some h) None others more o bytes behind e = absurd cc
 before_more None low others more o bytes behind e = absurd cc
@@ -82,7 +83,7 @@ before_none (Some h) None others more same e = refl
 before_none None low others more same e = refl
 
 bytes_more : (row rest bytes : List ℕ) → bytes_in row ≡ Some bytes → bytes_in (row ++ rest) ≡ option_map (λ more. bytes ++ more) (bytes_in rest)
-bytes_more [] rest bytes e = nothing (bytes_in rest) ∙ ap (λ (front : List ℕ). option_map (λ m. front ++ m) (bytes_in rest)) (some_is [] bytes e)
+bytes_more [] rest bytes e = nothing (bytes_in rest) ∙ ap (λ (front : List ℕ). option_map (λ m. front ++ m) (bytes_in rest)) (same_Some [] bytes e)
   where
     nothing : (o : Option (List ℕ)) → o ≡ option_map (λ m. [] ++ m) o
     nothing (Some x) = refl

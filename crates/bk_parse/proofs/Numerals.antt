@@ -5,6 +5,7 @@ use Rattle.std.proofs.lemmas.Bool.Decides.{nat_tests}
 use Rattle.std.proofs.lemmas.Fmt.{decimal_is_IsNumeral_wide, decimal_step_wide, decimal_by_steps_wide, decimal_digit}
 use Rattle.std.proofs.lemmas.Str.{digit_value_digit}
 use Rattle.std.proofs.lemmas.Str.Parse.{digit_from_value}
+use Rattle.std.proofs.lemmas.Option.{same_Some}
 use Rattle.std.specs.Char.{digit_value, is_ascii_digit}
 use Rattle.std.specs.Int.{IsInRange}
 use Rattle.std.specs.List.{list_all}
@@ -12,7 +13,6 @@ use Rattle.std.specs.Str.Parse.{AllDigits, digits_value, digits_value_after}
 use Rattle.bk_codec.proofs.Steps.{chosen}
 use Rattle.bk_parse.specs.Inverse.{Inverts}
 use Rattle.bk_parse.specs.Numbers.{is_numeral, number_of}
-use Rattle.bk_parse.proofs.Options.{some_is}
 
 -- ---- digits
 
@@ -156,7 +156,7 @@ number_found limit wide t n e =
       | inl read ↦
           let parts = and_parts (is_numeral t) (nat_lt (digits_value 10 t) limit) read.0 in
           let below = ltb-true (digits_value 10 t) limit parts.1 in
-          let same = some_is (digits_value 10 t) n read.1 in
+          let same = same_Some (digits_value 10 t) n read.1 in
           let digits = all_digits t (numeral_digits t parts.0) in
           let small : digits_value 10 t < 10 ^ 64 = omega arith in
           (omega arith, ap decimal (sym same) ∙ decimal_value t parts.0 digits small)

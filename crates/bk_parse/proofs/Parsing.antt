@@ -6,12 +6,12 @@ use Rattle.std.proofs.lemmas.Fmt.{IsAscii-from_digits, decimal_digit}
 use Rattle.std.proofs.lemmas.Str.Ascii.{IsAscii-cons}
 use Rattle.std.proofs.lemmas.Str.{IsUtf8-from_ascii}
 use Rattle.std.proofs.lemmas.Str.Parse.{parse_plain, parse_signed_plain, parse_signed_minus, numerals_by_value, tells_digits}
+use Rattle.std.proofs.lemmas.Option.{same_Some}
 use Rattle.std.specs.Char.{is_ascii_digit}
 use Rattle.std.specs.Int.{w128}
 use Rattle.std.specs.Result.{OkIff, result_ok}
 use Rattle.std.specs.Str.Parse.{AllDigits, ParsesUnsigned, ParsesSigned, digits_value}
 use Rattle.bk_parse.specs.Numbers.{is_numeral, number_of, signed_of, below_zero}
-use Rattle.bk_parse.proofs.Options.{some_is}
 use Rattle.bk_parse.proofs.Numerals.{all_digits, decimal_value, digits_pass, numeral_digits, numeral_length, numeral_from}
 
 -- ---- what is refused before
@@ -131,7 +131,7 @@ text_is t (Err e) R p q h = numeral_is_text t h.0
 
 -- what std's test of bytes answered
 pub text_was : {E : Type 0} (t : List ℕ) (r : Result (Bor (List ℕ)) E) (s : Bor (List ℕ)) (R : E → Type 0) → Some s ≡ result_ok r → MatchResult r (λ s. (s.now ≡ t) × IsUtf8 t) (λ e. ¬ (IsUtf8 t) × R e) → s.now ≡ t
-text_was t (Ok x) s R e h = let same : s ≡ x = some_is s x e in ap (λ (y : Bor (List ℕ)). y.now) same ∙ h.0
+text_was t (Ok x) s R e h = let same : s ≡ x = same_Some s x e in ap (λ (y : Bor (List ℕ)). y.now) same ∙ h.0
 text_was t (Err d) s R e h = absurd cc
 
 pub no_text : {E : Type 0} (t : List ℕ) (r : Result (Bor (List ℕ)) E) (R : E → Type 0) → ◌≡◌ {A = Option (Bor (List ℕ))} None (result_ok r) → MatchResult r (λ s. (s.now ≡ t) × IsUtf8 t) (λ e. ¬ (IsUtf8 t) × R e) → ¬ IsUtf8 t

@@ -4,10 +4,11 @@ use Rattle.std.specs.Fmt.{signed_decimal}
 use Rattle.std.specs.Int.{w128}
 use Rattle.std.proofs.lemmas.Bool.{eqb-true, ne_eqb, cond-false}
 use Rattle.std.proofs.lemmas.Bool.Decides.{nat_tests}
+use Rattle.std.proofs.lemmas.Option.{same_Some}
 use Rattle.bk_codec.proofs.Steps.{chosen}
 use Rattle.bk_parse.specs.Inverse.{Inverts}
 use Rattle.bk_parse.specs.Numbers.{number_of, below_zero, signed_of}
-use Rattle.bk_parse.proofs.Options.{some_is, map_some, then_some}
+use Rattle.bk_parse.proofs.Options.{map_some, then_some}
 use Rattle.bk_parse.proofs.Numerals.{number_inverts, first_digit}
 
 plain : Inverts (number_of (2 ^ 127)) (λ n. n < 2 ^ 127) decimal
@@ -19,7 +20,7 @@ minus = number_inverts (2 ^ 127 + 1) (omega arith)
 below_found : (n : ℕ) (z : ℤ) (t : List ℕ) → n < 2 ^ 127 + 1 → decimal n ≡ t → below_zero n ≡ Some z → FitsSigned w128 z × (signed_decimal z ≡ 45 ∷ t)
 below_found zero z t small is e = absurd cc
 below_found (suc n) z t small is e =
-    let same : negsuc n ≡ z = some_is (negsuc n) z e in
+    let same : negsuc n ≡ z = same_Some (negsuc n) z e in
     rw (← same) (record { sfits = omega arith }, ap (λ (ds : List ℕ). 45 ∷ ds) is)
 
 signed_found : (t : List ℕ) (z : ℤ) → signed_of t ≡ Some z → FitsSigned w128 z × (signed_decimal z ≡ t)

@@ -4,11 +4,12 @@ use Rattle.std.proofs.lemmas.Bool.{false_from_ne_true}
 use Rattle.std.proofs.lemmas.List.{drop_more, take-append-drop, get_or-take, length-take, take_rest}
 use Rattle.memchr.specs.Find.{NoneBefore, Nowhere, Passes, is_byte}
 use Rattle.std.proofs.lemmas.List.Elements.{All-from_get_or, All-nil, All-cons, All-head, All-tail, All-weaker, All-map}
-use Rattle.std.proofs.lemmas.List.Splits.{slice_split_none, slice_split_at, length-slice_split, join_with_byte-slice_split}
-use Rattle.std.specs.List.{AllZip, join_by, join_with_byte}
+use Rattle.std.proofs.lemmas.List.Splits.{slice_split_none, slice_split_at, join_with_byte-slice_split}
+use Rattle.std.proofs.lemmas.Option.{same_Some}
+use Rattle.std.specs.List.{join_by, join_with_byte}
 use Rattle.bk_parse.specs.Inverse.{Inverts}
 use Rattle.bk_parse.specs.Parts.{parts_at, all_of, Lacks}
-use Rattle.bk_parse.proofs.Options.{some_is, map_some, then_some}
+use Rattle.bk_parse.proofs.Options.{map_some, then_some}
 
 -- ---- parts
 
@@ -52,9 +53,6 @@ parts_of_joined c (text ∷ next ∷ texts) some lack =
 pub joined_parts : (c : ℕ) (text : List ℕ) → join_with_byte c (parts_at c text) ≡ text
 joined_parts c text = join_with_byte-slice_split c text
 
-pub parts_length : (c : ℕ) (text : List ℕ) → 0 < length (parts_at c text)
-parts_length c text = omega (arith, length-slice_split (λ b. eqb b c) text)
-
 -- ---- texts of values, joined
 
 pub joined_texts : {A : Type 0} (text : A → List ℕ) (c : ℕ) (xs : List A) → join_by text (c ∷ []) xs ≡ join_with_byte c (map text xs)
@@ -64,24 +62,9 @@ joined_texts text c (x ∷ y ∷ xs) = ap (λ (t : List ℕ). text x ++ (c ∷ t
 
 -- ---- each text read
 
--- all are read just where each is
-pub each_read : {A : Type 0} (read : List ℕ → Option A) (texts : List (List ℕ)) (xs : List A) → all_of read texts ≡ Some xs → AllZip (λ text x. read text ≡ Some x) texts xs
-each_read read [] [] e = tt
-each_read read [] (x ∷ xs) e = absurd cc
-each_read read (text ∷ texts) xs e =
-    let first = then_some (λ x. option_map (λ xs. x ∷ xs) (all_of read texts)) (read text) xs e in
-    let others = map_some (λ xs. first.0 ∷ xs) (all_of read texts) xs first.2 in
-    rw (← others.2) (first.1, each_read read texts others.0 others.1)
-
-pub all_read : {A : Type 0} (read : List ℕ → Option A) (texts : List (List ℕ)) (xs : List A) → AllZip (λ text x. read text ≡ Some x) texts xs → all_of read texts ≡ Some xs
-all_read read [] [] h = refl
-all_read read [] (x ∷ xs) h = absurd h
-all_read read (text ∷ texts) [] h = absurd h
-all_read read (text ∷ texts) (x ∷ xs) h = rw (h.0, all_read read texts xs h.1) refl
-
 module _ {A : Type 0} {read : List ℕ → Option A} {Is : A → Type 0} {text : A → List ℕ} (inverse : Inverts read Is text) where
   pub all_found : (texts : List (List ℕ)) (xs : List A) → all_of read texts ≡ Some xs → All Is xs × (map text xs ≡ texts)
-  all_found [] xs e = rw (← some_is [] xs e) (All-nil Is, refl)
+  all_found [] xs e = rw (← same_Some [] xs e) (All-nil Is, refl)
   all_found (t ∷ texts) xs e =
       let first = then_some (λ x. option_map (λ xs. x ∷ xs) (all_of read texts)) (read t) xs e in
       let others = map_some (λ xs. first.0 ∷ xs) (all_of read texts) xs first.2 in

@@ -1,15 +1,15 @@
 //! What holds of the readings: each reads back what is written, and nothing else.
 
-ghost use Rattle.std.specs.Prelude.{◌≡◌, ◌↔◌, ℕ, ◌<◌, ◌≤◌, ◌^◌, List, length, All, Option, Some, decimal, FitsSigned};
+ghost use Rattle.std.specs.Prelude.{◌≡◌, ℕ, ◌<◌, ◌≤◌, ◌^◌, List, length, All, decimal, FitsSigned};
 ghost use Rattle.std.specs.Fmt.{signed_decimal};
 ghost use Rattle.std.specs.Int.{w128};
-ghost use Rattle.std.specs.List.{AllZip, join_with_byte};
+ghost use Rattle.std.specs.List.{join_with_byte};
 ghost use Rattle.hex.specs.Hex.{encode_lower};
 ghost use Rattle.bk_codec.specs.Spelling.{IsBytes};
 ghost use Rattle.bk_parse.specs.HexBytes.{bytes_of};
 ghost use Rattle.bk_parse.specs.Inverse.{Inverts};
 ghost use Rattle.bk_parse.specs.Numbers.{number_of, signed_of};
-ghost use Rattle.bk_parse.specs.Parts.{Lacks, all_of, parts_at};
+ghost use Rattle.bk_parse.specs.Parts.{Lacks, parts_at};
 
 /// Each number below a limit is read from the text that it is written as, and each text that is read
 /// is what its number is written as.
@@ -35,10 +35,4 @@ pub fn parts_of_joined_texts()
 /// The parts of a text, joined by the separator, are the text.
 pub fn parts_rejoin()
     ensures { (c : ℕ) (text : List ℕ) → join_with_byte c (parts_at c text) ≡ text }
-{}
-
-/// Texts are read as values exactly where each text is read as the value in its place.
-pub fn parts_read_each<T>()
-    ensures { (read : List ℕ → Option T) (texts : List (List ℕ)) (xs : List T)
-        → (all_of read texts ≡ Some xs) ↔ AllZip (λ text x. read text ≡ Some x) texts xs }
 {}

@@ -10,8 +10,7 @@ mod refusal;
 pub use decimal::{read_i128, read_u32, read_u64};
 pub use hex_digits::read_hex;
 pub use laws::{
-    hex_bytes_invert, numbers_invert, parts_of_joined_texts, parts_read_each, parts_rejoin,
-    signed_numbers_invert,
+    hex_bytes_invert, numbers_invert, parts_of_joined_texts, parts_rejoin, signed_numbers_invert,
 };
 pub use parts::Parts;
 pub use refusal::TextRefusal;
