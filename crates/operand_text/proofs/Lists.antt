@@ -3,12 +3,13 @@ use Rattle.std.proofs.Common.{◌≡◌, ℕ, ◌^◌, ◌<◌, Bool, true, fals
 use Rattle.std.proofs.lemmas.Bool.{eqb-true, eq-eqb, ne_eqb, cond-true, cond-false}
 use Rattle.std.proofs.lemmas.List.{length-append}
 use Rattle.std.proofs.lemmas.List.Elements.{All-nil, All-head}
+use Rattle.std.proofs.lemmas.Option.{same_Some}
 use Rattle.std.specs.List.{flat_map, join_by, join_with_byte}
 use Rattle.bk_codec.proofs.Steps.{chosen}
 use Rattle.bk_parse.specs.Inverse.{Inverts}
 use Rattle.bk_parse.specs.Parts.{Lacks, all_of, parts_at}
 use Rattle.bk_parse.specs.Numbers.{number_of}
-use Rattle.bk_parse.proofs.Options.{some_is, map_some, then_some}
+use Rattle.bk_parse.proofs.Options.{map_some, then_some}
 use Rattle.bk_parse.proofs.Numerals.{number_inverts}
 use Rattle.bk_parse.proofs.Splitting.{one_part, first_part, joined_parts, joined_found, joined_only}
 use Rattle.compact_term.specs.Operand.{PairMeetsType}
@@ -42,12 +43,10 @@ pair_found t p e =
 
 pair_back : (p : ℕ × ℕ) → PairMeetsType p → pair_of (pair_text p) ≡ Some p
 pair_back p h =
-    let kind = h.0 in
-    let amount = h.1 in
     ap (λ (t : List ℕ). pair_in (parts_at 58 t)) (append_assoc (decimal p.0) (codes ":") (decimal p.1))
-    ∙ ap pair_in (first_part 58 (decimal p.0) (decimal p.1) (decimal_lacks 58 p.0 (omega arith) refl) ∙ ap (λ (ps : List (List ℕ)). decimal p.0 ∷ ps) (one_part 58 (decimal p.1) (decimal_lacks 58 p.1 (omega arith) refl)))
-    ∙ ap (option_and_then (λ k. option_map (λ n. (k, n)) (number_of (2 ^ 64) (decimal p.1)))) (long.only p.0 kind)
-    ∙ ap (option_map (λ n. (p.0, n))) (long.only p.1 amount)
+    ∙ ap pair_in (first_part 58 (decimal p.0) (decimal p.1) (decimal_lacks 58 p.0 refl) ∙ ap (λ (ps : List (List ℕ)). decimal p.0 ∷ ps) (one_part 58 (decimal p.1) (decimal_lacks 58 p.1 refl)))
+    ∙ ap (option_and_then (λ k. option_map (λ n. (k, n)) (number_of (2 ^ 64) (decimal p.1)))) (long.only p.0 h.0)
+    ∙ ap (option_map (λ n. (p.0, n))) (long.only p.1 h.1)
 
 pub pair_inverts : Inverts pair_of PairMeetsType pair_text
 pair_inverts = record { found = pair_found; only = pair_back }
@@ -58,7 +57,7 @@ pub closed_found : (last : ℕ) (t inner : List ℕ) → closed_by last t ≡ So
 closed_found last [] inner e = absurd cc
 closed_found last (b ∷ []) inner e =
     elim (chosen (eqb b last) (Some []) None (Some inner) e) [
-      | inl here ↦ ap (λ (front : List ℕ). front ++ last ∷ []) (sym (some_is [] inner here.1)) ∙ ap (λ (x : ℕ). x ∷ []) (sym (eqb-true b last here.0))
+      | inl here ↦ ap (λ (front : List ℕ). front ++ last ∷ []) (sym (same_Some [] inner here.1)) ∙ ap (λ (x : ℕ). x ∷ []) (sym (eqb-true b last here.0))
       | inr none ↦ absurd (let h = none.1 in cc)
     ]
 closed_found last (b ∷ c ∷ t) inner e =
@@ -96,7 +95,7 @@ members_some read (b ∷ t) some = refl
 
 module _ {A : Type 0} {read : List ℕ → Option A} {Is : A → Type 0} {text : A → List ℕ} (inverse : Inverts read Is text) (lacks : (x : A) → Is x → Lacks 44 (text x)) (some : (x : A) → Is x → 0 < length (text x)) where
   members_found : (t : List ℕ) (xs : List A) → members_of read t ≡ Some xs → All Is xs × (join_by text (codes ",") xs ≡ t)
-  members_found [] xs e = rw (← some_is [] xs e) (All-nil Is, refl)
+  members_found [] xs e = rw (← same_Some [] xs e) (All-nil Is, refl)
   members_found (b ∷ t) xs e = joined_found inverse 44 (b ∷ t) xs e
 
   members_back : (xs : List A) → All Is xs → members_of read (join_by text (codes ",") xs) ≡ Some xs

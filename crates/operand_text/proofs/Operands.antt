@@ -22,7 +22,7 @@ lists : Inverts (members_of plain_of) (All PlainIsListed) (join_by plain_text (c
 lists = members_invert plain_inverts plain_lacks plain_some
 
 pairs : Inverts (members_of pair_of) (All PairMeetsType) (join_by pair_text (codes ","))
-pairs = members_invert pair_inverts pair_lacks pair_some
+pairs = members_invert pair_inverts (λ p fits. pair_lacks p) (λ p fits. pair_some p)
 
 -- what is read between a mark and the last byte
 enclosed : {A B : Type 0} {read : List ℕ → Option A} {Is : A → Type 0} {text : A → List ℕ} → Inverts read Is text → (make : A → B) (made_text : B → List ℕ) (IsMade : B → Type 0) (first last : ℕ)

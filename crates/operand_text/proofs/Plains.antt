@@ -2,6 +2,7 @@
 use Rattle.std.proofs.Common.{◌≡◌, ℕ, ◌^◌, ◌<◌, ◌≤◌, Bool, true, false, ◌||◌, nat_le, eqb, cond, List, [], ◌∷◌, ◌++◌, length, drop, get_or, Option, Some, None, option_map, option_and_then, codes, decimal, refl, sym, ap, ◌∙◌, arith, append_assoc, inl, inr}
 use Rattle.std.proofs.lemmas.Bool.{eqb-true, ne_eqb, cond-true, cond-false, leb-true, le-leb, or_right}
 use Rattle.std.proofs.lemmas.Bool.Decides.{nat_tests}
+use Rattle.std.proofs.lemmas.Option.{same_Some}
 use Rattle.std.specs.Char.{is_ascii_digit}
 use Rattle.std.specs.Int.{is_in_range}
 use Rattle.std.specs.List.{list_all, join_with_byte}
@@ -12,7 +13,7 @@ use Rattle.bk_parse.specs.Inverse.{Inverts}
 use Rattle.bk_parse.specs.Parts.{Lacks, parts_at}
 use Rattle.bk_parse.specs.Numbers.{number_of, signed_of}
 use Rattle.bk_parse.specs.HexBytes.{bytes_of}
-use Rattle.bk_parse.proofs.Options.{some_is, map_some, then_some}
+use Rattle.bk_parse.proofs.Options.{map_some, then_some}
 use Rattle.bk_parse.proofs.Numerals.{number_inverts, first_digit}
 use Rattle.bk_parse.proofs.Signed.{signed_inverts}
 use Rattle.bk_parse.proofs.HexPairs.{bytes_invert}
@@ -65,19 +66,18 @@ register_back (regs.Y n) h = ap (option_map regs.Y) (word.only n h)
 
 -- no text of a register or a number holds a slash
 
-pub decimal_lacks : (c n : ℕ) → n < 10 ^ 64 → is_ascii_digit c ≡ false → Lacks c (decimal n)
-decimal_lacks c n small fails = lacks_from is_ascii_digit c (decimal n) fails (decimal_passes n small)
+pub decimal_lacks : (c n : ℕ) → is_ascii_digit c ≡ false → Lacks c (decimal n)
+decimal_lacks c n fails = lacks_from is_ascii_digit c (decimal n) fails (decimal_passes n)
 
 abbrev is_register_byte : ℕ → Bool
 is_register_byte b = is_in_range 120 121 b || is_ascii_digit b
 
-decimal_in_register : (n : ℕ) → n < 2 ^ 32 → list_all is_register_byte (decimal n) ≡ true
-decimal_in_register n small =
-    passes_weaker is_ascii_digit is_register_byte (λ b digit. or_right (is_in_range 120 121 b) (is_ascii_digit b) digit) (decimal n) (decimal_passes n (omega arith))
+decimal_in_register : (n : ℕ) → list_all is_register_byte (decimal n) ≡ true
+decimal_in_register n = passes_weaker is_ascii_digit is_register_byte (λ b digit. or_right (is_in_range 120 121 b) (is_ascii_digit b) digit) (decimal n) (decimal_passes n)
 
-register_lacks : (r : Reg) → RegMeetsType r → Lacks 47 (register_text r)
-register_lacks (regs.X n) h = lacks_from is_register_byte 47 (120 ∷ decimal n) refl (decimal_in_register n h)
-register_lacks (regs.Y n) h = lacks_from is_register_byte 47 (121 ∷ decimal n) refl (decimal_in_register n h)
+register_lacks : (r : Reg) → Lacks 47 (register_text r)
+register_lacks (regs.X n) = lacks_from is_register_byte 47 (120 ∷ decimal n) refl (decimal_in_register n)
+register_lacks (regs.Y n) = lacks_from is_register_byte 47 (121 ∷ decimal n) refl (decimal_in_register n)
 
 plain_register_found : (r : Reg) → RegMeetsType r → PlainIsListed (plain_register r) × (plain_text (plain_register r) ≡ register_text r)
 plain_register_found (regs.X n) h = ((h, tt), refl)
@@ -107,12 +107,12 @@ register_in_found t p e =
     (facts.0, facts.1 ∙ joined_parts 47 t)
 
 register_alone : (r : Reg) → RegMeetsType r → register_in (parts_at 47 (register_text r)) ≡ Some (plain_register r)
-register_alone r h = ap register_in (one_part 47 (register_text r) (register_lacks r h)) ∙ ap (option_map plain_register) (register_back r h)
+register_alone r h = ap register_in (one_part 47 (register_text r) (register_lacks r)) ∙ ap (option_map plain_register) (register_back r h)
 
 typed_back : (r : Reg) (n : ℕ) → RegMeetsType r → n < 2 ^ 64 → register_in (parts_at 47 (register_text r ++ codes "/" ++ decimal n)) ≡ Some (plains.Typed r n)
 typed_back r n h small =
     ap (λ (t : List ℕ). register_in (parts_at 47 t)) (append_assoc (register_text r) (codes "/") (decimal n))
-    ∙ ap register_in (first_part 47 (register_text r) (decimal n) (register_lacks r h) ∙ ap (λ (ps : List (List ℕ)). register_text r ∷ ps) (one_part 47 (decimal n) (decimal_lacks 47 n (omega arith) refl)))
+    ∙ ap register_in (first_part 47 (register_text r) (decimal n) (register_lacks r) ∙ ap (λ (ps : List (List ℕ)). register_text r ∷ ps) (one_part 47 (decimal n) (decimal_lacks 47 n refl)))
     ∙ ap (option_and_then (λ r. option_map (plains.Typed r) (number_of (2 ^ 64) (decimal n)))) (register_back r h)
     ∙ ap (option_map (plains.Typed r)) (long.only n small)
 
@@ -150,7 +150,7 @@ wide_is : (bytes : List ℕ) (p : Plain) → IsBytes bytes → wide_of bytes ≡
 wide_is bytes p h e =
     elim (chosen (nat_le 17 (length bytes)) (Some (plains.Wide bytes)) None (Some p) e) [
       | inl wide ↦
-          let same : plains.Wide bytes ≡ p = some_is (plains.Wide bytes) p wide.1 in
+          let same : plains.Wide bytes ≡ p = same_Some (plains.Wide bytes) p wide.1 in
           let length : 17 ≤ length bytes = leb-true 17 (length bytes) wide.0 in
           rw (← same) ((h, length), refl)
       | inr none ↦ absurd (let h = none.1 in cc)

@@ -1,5 +1,5 @@
 -- Which bytes stand in the texts of operands.
-use Rattle.std.proofs.Common.{◌≡◌, ℕ, ◌^◌, ◌<◌, Bool, true, ◌||◌, List, [], ◌∷◌, ◌++◌, length, codes, decimal, refl, arith}
+use Rattle.std.proofs.Common.{◌≡◌, ℕ, ◌<◌, Bool, true, ◌||◌, List, [], ◌∷◌, ◌++◌, length, codes, decimal, refl, arith}
 use Rattle.std.proofs.lemmas.Bool.Decides.{nat_tests}
 use Rattle.std.proofs.lemmas.Bool.{and_from}
 use Rattle.std.proofs.lemmas.List.{length-append}
@@ -10,7 +10,7 @@ use Rattle.std.specs.List.{list_all, join_by}
 use Rattle.hex.specs.Hex.{encode_lower}
 use Rattle.bk_parse.specs.Parts.{Lacks}
 use Rattle.bk_parse.proofs.Passing.{passes_append, passes_weaker, passes_joined, lacks_from, decimal_passes, signed_passes, encoded_passes, is_signed_byte, is_lower_digit}
-use Rattle.compact_term.specs.Operand.{RegMeetsType, PairMeetsType}
+use Rattle.compact_term.specs.Operand.{PairMeetsType}
 use Rattle.compact_term.specs.declared.operand.Reg.{Reg}
 use Rattle.compact_term.specs.declared.operand.Reg.TheVariants as regs
 use Rattle.compact_term.specs.declared.operand.Plain.{Plain}
@@ -35,27 +35,26 @@ signed_is_plain b e = grind (arith, nat_tests)
 lower_is_plain : (b : ℕ) → is_lower_digit b ≡ true → is_plain_byte b ≡ true
 lower_is_plain b e = grind (arith, nat_tests)
 
-number_passes : (n : ℕ) → n < 10 ^ 64 → list_all is_plain_byte (decimal n) ≡ true
-number_passes n small = passes_weaker is_ascii_digit is_plain_byte digit_is_plain (decimal n) (decimal_passes n small)
+number_passes : (n : ℕ) → list_all is_plain_byte (decimal n) ≡ true
+number_passes n = passes_weaker is_ascii_digit is_plain_byte digit_is_plain (decimal n) (decimal_passes n)
 
-register_passes : (r : Reg) → RegMeetsType r → list_all is_plain_byte (register_text r) ≡ true
-register_passes (regs.X n) h = number_passes n (omega arith)
-register_passes (regs.Y n) h = number_passes n (omega arith)
+register_passes : (r : Reg) → list_all is_plain_byte (register_text r) ≡ true
+register_passes (regs.X n) = number_passes n
+register_passes (regs.Y n) = number_passes n
 
 plain_passes : (p : Plain) → PlainIsListed p → list_all is_plain_byte (plain_text p) ≡ true
-plain_passes (plains.U n) h = let small = h.0 in number_passes n (omega arith)
-plain_passes (plains.I z) h = passes_weaker is_signed_byte is_plain_byte signed_is_plain (signed_decimal z) (signed_passes z h.0)
+plain_passes (plains.U n) h = number_passes n
+plain_passes (plains.I z) h = passes_weaker is_signed_byte is_plain_byte signed_is_plain (signed_decimal z) (signed_passes z)
 plain_passes (plains.Wide bytes) h = passes_weaker is_lower_digit is_plain_byte lower_is_plain (encode_lower bytes) (encoded_passes bytes h.0)
-plain_passes (plains.A n) h = let small = h.0 in number_passes n (omega arith)
-plain_passes (plains.X n) h = let small = h.0 in number_passes n (omega arith)
-plain_passes (plains.Y n) h = let small = h.0 in number_passes n (omega arith)
-plain_passes (plains.F n) h = let small = h.0 in number_passes n (omega arith)
-plain_passes (plains.H n) h = let small = h.0 in number_passes n (omega arith)
-plain_passes (plains.Fr n) h = let small = h.0 in number_passes n (omega arith)
-plain_passes (plains.Lit n) h = let small = h.0 in number_passes n (omega arith)
+plain_passes (plains.A n) h = number_passes n
+plain_passes (plains.X n) h = number_passes n
+plain_passes (plains.Y n) h = number_passes n
+plain_passes (plains.F n) h = number_passes n
+plain_passes (plains.H n) h = number_passes n
+plain_passes (plains.Fr n) h = number_passes n
+plain_passes (plains.Lit n) h = number_passes n
 plain_passes (plains.Typed r n) h =
-    let small = h.0.1 in
-    passes_append is_plain_byte (register_text r ++ codes "/") (decimal n) (passes_append is_plain_byte (register_text r) (codes "/") (register_passes r h.0.0) refl) (number_passes n (omega arith))
+    passes_append is_plain_byte (register_text r ++ codes "/") (decimal n) (passes_append is_plain_byte (register_text r) (codes "/") (register_passes r) refl) (number_passes n)
 
 pub plain_lacks : (p : Plain) → PlainIsListed p → Lacks 44 (plain_text p)
 plain_lacks p h = lacks_from is_plain_byte 44 (plain_text p) refl (plain_passes p h)
@@ -81,18 +80,16 @@ is_pair_byte b = is_in_range 48 58 b
 digit_in_pair : (b : ℕ) → is_ascii_digit b ≡ true → is_pair_byte b ≡ true
 digit_in_pair b e = grind (arith, nat_tests)
 
-pair_passes : (p : ℕ × ℕ) → PairMeetsType p → list_all is_pair_byte (pair_text p) ≡ true
-pair_passes p h =
-    let kind = h.0 in
-    let amount = h.1 in
-    let each : (n : ℕ) → n < 2 ^ 64 → list_all is_pair_byte (decimal n) ≡ true = λ n small. passes_weaker is_ascii_digit is_pair_byte digit_in_pair (decimal n) (decimal_passes n (omega arith)) in
-    passes_append is_pair_byte (decimal p.0 ++ codes ":") (decimal p.1) (passes_append is_pair_byte (decimal p.0) (codes ":") (each p.0 kind) refl) (each p.1 amount)
+pair_passes : (p : ℕ × ℕ) → list_all is_pair_byte (pair_text p) ≡ true
+pair_passes p =
+    let each : (n : ℕ) → list_all is_pair_byte (decimal n) ≡ true = λ n. passes_weaker is_ascii_digit is_pair_byte digit_in_pair (decimal n) (decimal_passes n) in
+    passes_append is_pair_byte (decimal p.0 ++ codes ":") (decimal p.1) (passes_append is_pair_byte (decimal p.0) (codes ":") (each p.0) refl) (each p.1)
 
-pub pair_lacks : (p : ℕ × ℕ) → PairMeetsType p → Lacks 44 (pair_text p)
-pair_lacks p h = lacks_from is_pair_byte 44 (pair_text p) refl (pair_passes p h)
+pub pair_lacks : (p : ℕ × ℕ) → Lacks 44 (pair_text p)
+pair_lacks p = lacks_from is_pair_byte 44 (pair_text p) refl (pair_passes p)
 
-pub pair_some : (p : ℕ × ℕ) → PairMeetsType p → 0 < length (pair_text p)
-pair_some p h = omega (arith, length-append (decimal p.0 ++ codes ":") (decimal p.1), length-append (decimal p.0) (codes ":"))
+pub pair_some : (p : ℕ × ℕ) → 0 < length (pair_text p)
+pair_some p = omega (arith, length-append (decimal p.0 ++ codes ":") (decimal p.1), length-append (decimal p.0) (codes ":"))
 
 -- ---- all operands
 
@@ -114,7 +111,7 @@ operand_passes (operands.List ps) h =
     (passes_joined is_word_byte PlainIsListed plain_text (codes ",") refl (λ p listed. passes_weaker is_plain_byte is_word_byte plain_in_word (plain_text p) (plain_passes p listed)) ps h)
 operand_passes (operands.Alloc ps) h =
     enclosed_passes 123 125 (join_by pair_text (codes ",") ps) refl refl
-    (passes_joined is_word_byte PairMeetsType pair_text (codes ",") refl (λ p fits. passes_weaker is_pair_byte is_word_byte pair_in_word (pair_text p) (pair_passes p fits)) ps h)
+    (passes_joined is_word_byte PairMeetsType pair_text (codes ",") refl (λ p fits. passes_weaker is_pair_byte is_word_byte pair_in_word (pair_text p) (pair_passes p)) ps h)
 
 pub operand_some : (o : Operand) → IsListed o → 0 < length (operand_text o)
 operand_some (operands.One p) h = plain_some p h

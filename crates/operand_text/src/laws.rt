@@ -1,9 +1,10 @@
 //! What holds of the texts of operands.
 
-ghost use Rattle.std.specs.Prelude.{◌≡◌, ◌<◌, true, length};
+ghost use Rattle.std.specs.Prelude.{◌≡◌, ◌<◌, ◌≤◌, ◌*◌, true, length};
 ghost use Rattle.std.specs.List.{list_all};
 ghost use Rattle.bk_parse.specs.Inverse.{Inverts};
 ghost use Rattle.compact_term.specs.declared.operand.Operand.{Operand};
+ghost use Rattle.compact_term.specs.Canonical.{canonical};
 ghost use Rattle.operand_text.specs.Listed.{IsListed};
 ghost use Rattle.operand_text.specs.Operand.{operand_text};
 ghost use Rattle.operand_text.specs.Reading.{operand_of};
@@ -21,3 +22,10 @@ pub fn operand_texts_are_words()
     ensures bytes { (o : Operand) → IsListed o → list_all is_word_byte (operand_text o) ≡ true }
     ensures some { (o : Operand) → IsListed o → 0 < length (operand_text o) }
 {}
+
+/// The canonical spelling of an operand takes at most 18 bytes for each byte of its text.
+pub fn canonical_is_near_its_text()
+    ensures { (o : Operand) → length (canonical o) ≤ 18 * length (operand_text o) }
+{
+    compact_term::canonical_numbers_are_short();
+}

@@ -3,12 +3,10 @@
 
 mod laws;
 mod reading;
-mod sizes;
 mod writing;
 
-pub use laws::{operand_texts_are_words, operands_invert};
+pub use laws::{canonical_is_near_its_text, operand_texts_are_words, operands_invert};
 pub use reading::read_operand_text;
-pub use sizes::canonical_is_near_its_text;
 pub use writing::put_operand;
 
 #[cfg(test)]
