@@ -1,15 +1,13 @@
 -- Texts by tests of their bytes: the bytes of lines, the bytes of words, and all but a newline.
-use Rattle.std.proofs.Common.{◌≡◌, ℕ, zero, suc, ◌<◌, ◌/◌, ◌%◌, ◌==◌, ◌&&◌, Bool, true, false, not, List, [], ◌∷◌, ◌++◌, take, map, refl, sym, ap, ◌∙◌, arith}
-use Rattle.std.proofs.lemmas.Bool.{agree_below_at, and_from, and_parts, cond_both, ne_eqb, not_from_false, true≢false}
+use Rattle.std.proofs.Common.{◌≡◌, ℕ, zero, suc, ◌==◌, ◌&&◌, Bool, true, false, not, List, [], ◌∷◌, ◌++◌, take, map, refl, sym, ap, ◌∙◌, arith}
+use Rattle.std.proofs.lemmas.Bool.{and_from, and_parts, ne_eqb, not_from_false, true≢false}
 use Rattle.std.proofs.lemmas.Bool.Decides.{nat_tests}
-use Rattle.std.proofs.lemmas.List.Folds.{list_all-append}
 use Rattle.std.specs.Prelude.{nat_le, decimal}
-use Rattle.std.specs.Char.{is_ascii_alphanumeric}
-use Rattle.std.specs.Fmt.{digit_glyph, digits, digits_onto}
+use Rattle.std.specs.Char.{is_ascii_alphanumeric, is_ascii_digit}
 use Rattle.std.specs.List.{flat_map, list_all}
 use Rattle.hex.specs.Hex.{encode_lower, encode_with}
 use Rattle.bk_codec.specs.Spelling.{IsBytes}
-use Rattle.bk_parse.proofs.Passing.{encoded_passes, is_lower_digit}
+use Rattle.bk_parse.proofs.Passing.{decimal_passes, encoded_passes, is_lower_digit, passes_append, passes_weaker}
 use Rattle.op_table.specs.Table.{is_name_byte}
 use Rattle.operand_text.specs.Words.{is_word_byte}
 use Rattle.listing_out.specs.Listing.{has_text}
@@ -17,15 +15,6 @@ use Rattle.listing_out.specs.Listing.{has_text}
 -- ---- tests of the bytes of a text
 
 module _ {A : Type 0} (p : A → Bool) where
-  pub passes_joined : (xs ys : List A) → list_all p xs ≡ true → list_all p ys ≡ true → list_all p (xs ++ ys) ≡ true
-  passes_joined xs ys front back = list_all-append p xs ys ∙ and_from (list_all p xs) (list_all p ys) front back
-
-  pub passes_other : (q : A → Bool) → ((x : A) → p x ≡ true → q x ≡ true) → (xs : List A) → list_all p xs ≡ true → list_all q xs ≡ true
-  passes_other q also [] h = refl
-  passes_other q also (x ∷ xs) h =
-      let parts = and_parts (p x) (list_all p xs) h in
-      and_from (q x) (list_all q xs) (also x parts.0) (passes_other q also xs parts.1)
-
   pub passes_front : (n : ℕ) (xs : List A) → list_all p xs ≡ true → list_all p (take n xs) ≡ true
   passes_front zero xs h = refl
   passes_front (suc n) [] h = refl
@@ -39,7 +28,7 @@ module _ {A : Type 0} (p : A → Bool) where
 
   pub passes_flat : {B : Type 0} (f : B → List A) → ((y : B) → list_all p (f y) ≡ true) → (ys : List B) → list_all p (flat_map f ys) ≡ true
   passes_flat f each [] = refl
-  passes_flat f each (y ∷ ys) = passes_joined (f y) (flat_map f ys) (each y) (passes_flat f each ys)
+  passes_flat f each (y ∷ ys) = passes_append p (f y) (flat_map f ys) (each y) (passes_flat f each ys)
 
 -- ---- the tests
 
@@ -64,36 +53,22 @@ name_byte_word b h = grind (arith, nat_tests)
 pub word_line : (b : ℕ) → is_word_byte b ≡ true → is_line_byte b ≡ true
 word_line b h = grind (arith, nat_tests)
 
-digit_word : (b : ℕ) → is_lower_digit b ≡ true → is_word_byte b ≡ true
+digit_word : (b : ℕ) → is_ascii_digit b ≡ true → is_word_byte b ≡ true
 digit_word b h = grind (arith, nat_tests)
+
+lower_digit_word : (b : ℕ) → is_lower_digit b ≡ true → is_word_byte b ≡ true
+lower_digit_word b h = grind (arith, nat_tests)
 
 word_is_no_space : (b : ℕ) → is_word_byte b ≡ true → not (b == 32) ≡ true
 word_is_no_space b h = grind (arith, nat_tests)
 
 -- ---- numbers and hexadecimal digits are words
 
-glyph_word : (d : ℕ) → d < 10 → is_word_byte (digit_glyph false d) ≡ true
-glyph_word d below = agree_below_at (λ n. is_word_byte (digit_glyph false n)) (λ n. true) 10 d refl below
-
-digits_onto_words : (k n : ℕ) (text : List ℕ) → list_all is_word_byte text ≡ true → list_all is_word_byte (digits_onto k 10 false n text) ≡ true
-digits_onto_words zero n text h = h
-digits_onto_words (suc k) n text h =
-    let digit = digit_glyph false (n % 10) in
-    let more : list_all is_word_byte (digit ∷ text) ≡ true = and_from (is_word_byte digit) (list_all is_word_byte text) (glyph_word (n % 10) (omega arith)) h in
-    cond_both (n / 10 == 0) (digit ∷ text) (digits_onto k 10 false (n / 10) (digit ∷ text)) (λ t. list_all is_word_byte t ≡ true) (λ last. more) (λ others. digits_onto_words k (n / 10) (digit ∷ text) more)
-
-digits_onto_some : (k n b : ℕ) (text : List ℕ) → has_text (digits_onto k 10 false n (b ∷ text)) ≡ true
-digits_onto_some zero n b text = refl
-digits_onto_some (suc k) n b text =
-    let digit = digit_glyph false (n % 10) in
-    cond_both (n / 10 == 0) (digit ∷ b ∷ text) (digits_onto k 10 false (n / 10) (digit ∷ b ∷ text)) (λ t. has_text t ≡ true) (λ last. refl) (λ others. digits_onto_some k (n / 10) digit (b ∷ text))
-
 pub decimal_word : (n : ℕ) → list_all is_word_byte (decimal n) ≡ true
-unfolding digits
-decimal_word n = digits_onto_words 64 n [] refl
+decimal_word n = passes_weaker is_ascii_digit is_word_byte digit_word (decimal n) (decimal_passes n)
 
 pub hex_word : (bytes : List ℕ) → IsBytes bytes → list_all is_word_byte (encode_lower bytes) ≡ true
-hex_word bytes fits = passes_other is_lower_digit is_word_byte digit_word (encode_lower bytes) (encoded_passes bytes fits)
+hex_word bytes fits = passes_weaker is_lower_digit is_word_byte lower_digit_word (encode_lower bytes) (encoded_passes bytes fits)
 
 pub hex_some : (b : ℕ) (bytes : List ℕ) → has_text (encode_lower (b ∷ bytes)) ≡ true
 unfolding encode_with
@@ -127,7 +102,7 @@ has_text_ended [] h = h
 has_text_ended (b ∷ line) h = refl
 
 pub word_clean : (text : List ℕ) → has_text text ≡ true → list_all is_word_byte text ≡ true → IsClean text
-word_clean text some h = record { bytes = passes_other is_word_byte is_line_byte word_line text h; ended = ends_word text some h }
+word_clean text some h = record { bytes = passes_weaker is_word_byte is_line_byte word_line text h; ended = ends_word text some h }
 
 pub clean_behind : (front back : List ℕ) → list_all is_line_byte front ≡ true → IsClean back → IsClean (front ++ back)
-clean_behind front back h clean = record { bytes = passes_joined is_line_byte front back h clean.bytes; ended = ends_behind front back clean.ended }
+clean_behind front back h clean = record { bytes = passes_append is_line_byte front back h clean.bytes; ended = ends_behind front back clean.ended }

@@ -1,5 +1,5 @@
 -- No newline stands in a comment.
-use Rattle.std.proofs.Common.{◌≡◌, ℕ, zero, suc, ◌+◌, ◌<◌, ◌==◌, Bool, true, false, not, List, [], ◌∷◌, ◌++◌, length, take, map, None, refl, arith}
+use Rattle.std.proofs.Common.{◌≡◌, ℕ, zero, suc, ◌+◌, ◌<◌, ◌==◌, Bool, true, false, not, List, [], ◌∷◌, ◌++◌, length, take, None, refl, arith}
 use Rattle.std.proofs.lemmas.Bool.{and_from, and_parts, cond_both, not_from_false}
 use Rattle.std.proofs.lemmas.Bool.Decides.{nat_tests}
 use Rattle.std.specs.Prelude.{◌-◌, codes, decimal, nat_lt, slice_get}
@@ -7,6 +7,7 @@ use Rattle.std.specs.Char.{is_ascii_control, is_ascii_lowercase}
 use Rattle.std.specs.List.{flat_map, list_all}
 use Rattle.hex.specs.Hex.{encode_lower}
 use Rattle.bk_codec.specs.Spelling.{IsBytes}
+use Rattle.bk_parse.proofs.Passing.{passes_append, passes_weaker}
 use Rattle.ext_term.specs.Name.{escaped, is_bare, is_name_byte, name_text}
 use Rattle.compact_term.specs.declared.operand.Plain.{Plain}
 use Rattle.compact_term.specs.declared.operand.Plain.TheVariants as plains
@@ -19,18 +20,18 @@ use Rattle.operand_text.specs.Words.{is_word_byte}
 use Rattle.beam_module.specs.File.{FileChunk}
 use Rattle.listing_out.specs.declared.names.Names.{Names}
 use Rattle.listing_out.specs.Comments.{atoms_in, called, imports_in, is_import_place, item_of, items_from, items_text, lead, names_in, operand_items, shortened}
-use Rattle.listing_out.proofs.Clean.{decimal_word, hex_word, is_inline, no_newline, passes_flat, passes_front, passes_joined, passes_map, passes_other}
+use Rattle.listing_out.proofs.Clean.{decimal_word, hex_word, is_inline, no_newline, passes_flat, passes_front, passes_map}
 
 -- ---- names
 
 word_inline : (text : List ℕ) → list_all is_word_byte text ≡ true → list_all is_inline text ≡ true
-word_inline text h = passes_other is_word_byte is_inline (no_newline is_word_byte refl) text h
+word_inline text h = passes_weaker is_word_byte is_inline (no_newline is_word_byte refl) text h
 
 bare_inline : (name : List ℕ) → is_bare name ≡ true → list_all is_inline name ≡ true
 bare_inline [] h = refl
 bare_inline (b ∷ bytes) h =
     let parts = and_parts (is_ascii_lowercase b) (list_all is_name_byte bytes) h in
-    and_from (is_inline b) (list_all is_inline bytes) (no_newline is_ascii_lowercase refl b parts.0) (passes_other is_name_byte is_inline (no_newline is_name_byte refl) bytes parts.1)
+    and_from (is_inline b) (list_all is_inline bytes) (no_newline is_ascii_lowercase refl b parts.0) (passes_weaker is_name_byte is_inline (no_newline is_name_byte refl) bytes parts.1)
 
 control_is_byte : (b : ℕ) → is_ascii_control b ≡ true → b < 256
 control_is_byte b h = grind (arith, nat_tests)
@@ -46,26 +47,26 @@ escaped_inline b =
     cond_both (b == 39) (codes "\\'") _ Inline (λ quote. refl) (λ q.
     cond_both (b == 92) (codes "\\\\") _ Inline (λ backslash. refl) (λ s.
     cond_both (is_ascii_control b) (codes "\\x" ++ digits) (b ∷ []) Inline
-    (λ control. passes_joined is_inline (codes "\\x") digits refl (word_inline digits (hex_word (b ∷ []) (one_byte b (control_is_byte b control)))))
+    (λ control. passes_append is_inline (codes "\\x") digits refl (word_inline digits (hex_word (b ∷ []) (one_byte b (control_is_byte b control)))))
     (λ plain. and_from (is_inline b) true (no_newline (λ c. not (is_ascii_control c)) refl b (not_from_false (is_ascii_control b) plain)) refl)))
 
 name_inline : (name : List ℕ) → list_all is_inline (name_text name) ≡ true
 name_inline name =
     let quoted = codes "'" ++ flat_map escaped name in
     cond_both (is_bare name) name (quoted ++ codes "'") (λ t. list_all is_inline t ≡ true) (bare_inline name)
-    (λ other. passes_joined is_inline quoted (codes "'") (passes_joined is_inline (codes "'") (flat_map escaped name) refl (passes_flat is_inline escaped escaped_inline name)) refl)
+    (λ other. passes_append is_inline quoted (codes "'") (passes_append is_inline (codes "'") (flat_map escaped name) refl (passes_flat is_inline escaped escaped_inline name)) refl)
 
 import_inline : (names : List (List ℕ)) (x : Import) → list_all is_inline (import_text names x) ≡ true
 import_inline names x =
     let other = name_text (atom_name names x.module) in
     let function = name_text (atom_name names x.name) in
-    passes_joined is_inline (other ++ codes ":") (function_text names x.name x.arity) (passes_joined is_inline other (codes ":") (name_inline (atom_name names x.module)) refl)
-    (passes_joined is_inline (function ++ codes "/") (decimal x.arity) (passes_joined is_inline function (codes "/") (name_inline (atom_name names x.name)) refl) (word_inline (decimal x.arity) (decimal_word x.arity)))
+    passes_append is_inline (other ++ codes ":") (function_text names x.name x.arity) (passes_append is_inline other (codes ":") (name_inline (atom_name names x.module)) refl)
+    (passes_append is_inline (function ++ codes "/") (decimal x.arity) (passes_append is_inline function (codes "/") (name_inline (atom_name names x.name)) refl) (word_inline (decimal x.arity) (decimal_word x.arity)))
 
 shortened_inline : (text : List ℕ) → list_all is_inline text ≡ true → list_all is_inline (shortened text) ≡ true
 shortened_inline text h =
     cond_both (nat_lt 40 (length text)) (take 40 text ++ codes "~") text (λ t. list_all is_inline t ≡ true)
-    (λ long. passes_joined is_inline (take 40 text) (codes "~") (passes_front is_inline 40 text h) refl) (λ short. h)
+    (λ long. passes_append is_inline (take 40 text) (codes "~") (passes_front is_inline 40 text h) refl) (λ short. h)
 
 -- no name holds a newline
 pub record AreInline (names : Names) : Type 0 where
@@ -109,7 +110,7 @@ module _ (names : Names) (are : AreInline names) where
   pub items_inline : (op place : ℕ) (os : List Operand) → list_all (list_all is_inline) (items_from names op place os) ≡ true
   items_inline op place [] = refl
   items_inline op place (o ∷ os) =
-      passes_joined (list_all is_inline) (operand_items names (is_import_place op place) o) (items_from names op (place + 1) os) (operand_inline (is_import_place op place) o) (items_inline op (place + 1) os)
+      passes_append (list_all is_inline) (operand_items names (is_import_place op place) o) (items_from names op (place + 1) os) (operand_inline (is_import_place op place) o) (items_inline op (place + 1) os)
 
 lead_inline : (any : Bool) → list_all is_inline (lead any) ≡ true
 lead_inline true = refl
@@ -119,4 +120,4 @@ pub comment_inline : (any : Bool) (items : List (List ℕ)) → list_all (list_a
 comment_inline any [] h = refl
 comment_inline any (item ∷ items) h =
     let parts = and_parts (list_all is_inline item) (list_all (list_all is_inline) items) h in
-    passes_joined is_inline (lead any) (item ++ items_text true items) (lead_inline any) (passes_joined is_inline item (items_text true items) parts.0 (comment_inline true items parts.1))
+    passes_append is_inline (lead any) (item ++ items_text true items) (lead_inline any) (passes_append is_inline item (items_text true items) parts.0 (comment_inline true items parts.1))

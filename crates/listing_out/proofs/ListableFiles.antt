@@ -1,18 +1,17 @@
 -- Values that meet their types and whose operands are proper can be read back.
-use Rattle.std.proofs.Common.{List, [], ◌∷◌, All}
+use Rattle.std.proofs.Common.{List, [], ◌∷◌}
 use Rattle.std.specs.List.{AllByRecursion}
 use Rattle.compact_term.specs.Operand.{IsProper, MeetsType}
 use Rattle.compact_term.specs.declared.operand.Operand.{Operand}
 use Rattle.compact_term.specs.declared.operand.Operand.TheVariants as operands
 use Rattle.op_table.specs.Instruction.{Instruction}
 use Rattle.operand_text.specs.Listed.{IsListed}
-use Rattle.code_chunk.specs.Code.{CodeMeetsType, InstrMeetsType, IsProperInstr}
-use Rattle.code_chunk.specs.declared.code.CodeVal.{CodeVal}
-use Rattle.beam_module.specs.Canonical.{ChunkMeetsType, FileMeetsType, HasProperOperands, IsWritable, ValueMeetsType}
+use Rattle.code_chunk.specs.Code.{InstrMeetsType, IsProperInstr}
+use Rattle.beam_module.specs.Canonical.{FileMeetsType, HasProperOperands, IsWritable, ValueMeetsType}
 use Rattle.beam_module.specs.File.{AreChunks, FileChunk}
 use Rattle.beam_module.specs.declared.chunk_value.ChunkVal.{ChunkVal}
 use Rattle.beam_module.specs.declared.chunk_value.ChunkVal.TheVariants.{Code, Raw}
-use Rattle.listing_out.specs.Listable.{ChunkIsListed, CodeIsListed, InstrIsListed, IsListable, ValueIsListed}
+use Rattle.listing_out.specs.Listable.{ChunkIsListed, InstrIsListed, IsListable, ValueIsListed}
 
 operand_listed : (o : Operand) → MeetsType o → IsProper o → IsListed o
 operand_listed (operands.One p) meets proper = (meets, proper)

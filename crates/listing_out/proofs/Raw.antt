@@ -1,14 +1,15 @@
 -- Raw lines that are read as lines: what is kept of them without comments, where none of them holds a newline.
-use Rattle.std.proofs.Common.{◌≡◌, ℕ, ◌==◌, Bool, true, false, not, cond, List, [], ◌∷◌, ◌++◌, map, All, refl, sym, ap, ◌∙◌, append_assoc}
+use Rattle.std.proofs.Common.{◌≡◌, ℕ, ◌==◌, true, false, not, cond, List, [], ◌∷◌, ◌++◌, map, All, refl, sym, ap, ◌∙◌, append_assoc}
 use Rattle.std.proofs.lemmas.Bool.{and_from, and_parts, cond-true, cond-false, not-true}
 use Rattle.std.proofs.lemmas.List.{append-nil, map-append}
-use Rattle.std.proofs.lemmas.List.Elements.{All-cons, All-head, All-nil, All-tail, filter-append}
+use Rattle.std.proofs.lemmas.List.Elements.{All-cons, All-nil, filter-append}
 use Rattle.std.proofs.lemmas.List.Splits.{slice_split_at}
 use Rattle.std.specs.Prelude.{codes}
 use Rattle.std.specs.List.{AllByRecursion, filter, flat_map, list_all}
+use Rattle.bk_parse.proofs.Passing.{passes_append}
 use Rattle.listing_out.specs.Lines.{text_of}
 use Rattle.listing_out.specs.Listing.{bare, before_line, has_text, kept, raw_lines, trimmed, uncommented}
-use Rattle.listing_out.proofs.Clean.{IsClean, ends, has_text_ended, is_inline, is_line_byte, passes_joined}
+use Rattle.listing_out.proofs.Clean.{IsClean, ends, is_inline, is_line_byte}
 
 -- ---- a line without its comment
 
@@ -55,7 +56,7 @@ kept-append a b = ap (filter has_text) (map-append bare a b) ∙ filter-append h
 pub read_joined : (a b x y : List (List ℕ)) → IsReadAs a x → IsReadAs b y → IsReadAs (a ++ b) (x ++ y)
 read_joined a b x y front back = record {
   kept_are = kept-append a b ∙ ap (λ (t : List (List ℕ)). t ++ kept b) front.kept_are ∙ ap (λ (t : List (List ℕ)). x ++ t) back.kept_are;
-  inline = passes_joined (list_all is_inline) a b front.inline back.inline;
+  inline = passes_append (list_all is_inline) a b front.inline back.inline;
 }
 
 -- a list of things, of which each has its raw lines

@@ -7,11 +7,11 @@ mod file;
 mod laws;
 mod names;
 mod payload;
-mod sizes;
 
 pub use file::listing;
-pub use laws::{a_file_is_listable, listing_is_of_its_file, payload_lines_grow};
-pub use sizes::a_listing_bounds_its_file;
+pub use laws::{
+    a_file_is_listable, a_listing_bounds_its_file, listing_is_of_its_file, payload_lines_grow,
+};
 
 #[cfg(test)]
 mod tests;
