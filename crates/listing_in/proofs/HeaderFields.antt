@@ -1,11 +1,11 @@
 -- The fields of a line of code are read back.
 use Rattle.std.proofs.Common.{◌≡◌, ℕ, ◌^◌, ◌<◌, ◌≤◌, Bool, false, cond, List, [], ◌∷◌, length, Some, refl, sym, ap, subst, ◌∙◌, arith, inl, inr}
-use Rattle.std.specs.Prelude.{codes, decimal, bytes_eq}
+use Rattle.std.specs.Prelude.{◌==◌, codes, decimal, bytes_eq}
 use Rattle.std.specs.List.{AllByRecursion}
 use Rattle.std.specs.Option.{option_map, option_and_then}
 use Rattle.std.proofs.lemmas.Bool.{false_from_ne_true}
 use Rattle.std.proofs.lemmas.List.Elements.{All-nil}
-use Rattle.std.proofs.lemmas.Option.{none-some}
+use Rattle.std.proofs.lemmas.Option.{none-some, same_Some}
 use Rattle.std.proofs.lemmas.Slice.Eq.{bytes_eq-Decides}
 use Rattle.hex.specs.Hex.{encode_lower, encode_with}
 use Rattle.bk_codec.specs.Spelling.{IsBytes}
@@ -13,12 +13,14 @@ use Rattle.bk_codec.proofs.Steps.{chosen}
 use Rattle.bk_parse.specs.HexBytes.{bytes_of}
 use Rattle.bk_parse.specs.Inverse.{Inverts}
 use Rattle.bk_parse.specs.Numbers.{number_of}
-use Rattle.bk_parse.proofs.Options.{map_some, some_is, then_some}
+use Rattle.bk_parse.specs.Parts.{Lacks}
+use Rattle.bk_parse.proofs.Options.{map_some, then_some}
+use Rattle.bk_parse.proofs.Passing.{lacks_from}
 use Rattle.code_chunk.specs.declared.code.CodeVal.{CodeVal}
 use Rattle.listing_out.specs.Lines.{extra_text}
 use Rattle.listing_out.specs.Listable.{CodeIsListed, InstrIsListed}
 use Rattle.listing_in.specs.Header.{begun_with, extra_of, header_fields, header_of, some_bytes, word_of}
-use Rattle.listing_in.proofs.TextBytes.{IsWord, decimal_word, hex_word}
+use Rattle.listing_in.proofs.TextBytes.{decimal_lacks, hex_lacks, no_bytes}
 
 four_same : {X : Type 0} (a b c d e f g h : X) → e ≡ a → f ≡ b → g ≡ c → h ≡ d → a ∷ b ∷ c ∷ d ∷ [] ≡ e ∷ f ∷ g ∷ h ∷ []
 four_same a b c d e f g h p q r s = cc
@@ -27,10 +29,7 @@ four_same a b c d e f g h p q r s = cc
 
 some_found : (bytes extra : List ℕ) → some_bytes bytes ≡ Some extra → (extra ≡ bytes) × (extra_text extra ≡ encode_lower bytes)
 some_found [] extra e = absurd (none-some extra e)
-some_found (b ∷ bytes) extra e = let same : b ∷ bytes ≡ extra = some_is (b ∷ bytes) extra e in (sym same, ap extra_text (sym same))
-
-no_bytes : IsBytes []
-no_bytes i = omega arith
+some_found (b ∷ bytes) extra e = let same : b ∷ bytes ≡ extra = same_Some (b ∷ bytes) extra e in (sym same, ap extra_text (sym same))
 
 -- digits of a byte are no dash
 no_dash : (b : ℕ) (bytes : List ℕ) → IsBytes (b ∷ bytes) → bytes_eq (encode_lower (b ∷ bytes)) (codes "-") ≡ false
@@ -46,7 +45,7 @@ module _ (hex : Inverts bytes_of IsBytes encode_lower) where
   extra_found t extra e =
       elim (chosen (bytes_eq t (codes "-")) (Some []) (option_and_then some_bytes (bytes_of t)) (Some extra) e) [
         | inl h ↦
-            let none : [] ≡ extra = some_is [] extra h.1 in
+            let none : [] ≡ extra = same_Some [] extra h.1 in
             (subst IsBytes none no_bytes, ap extra_text (sym none) ∙ sym ((bytes_eq-Decides t (codes "-")).0 h.0))
         | inr h ↦
             let read = then_some some_bytes (bytes_of t) extra h.1 in
@@ -97,11 +96,11 @@ module _ (hex : Inverts bytes_of IsBytes encode_lower) where
         ∙ ap (option_and_then (λ f. option_map (begun_with c.max_op c.labels f) (extra_of (extra_text c.extra)))) (words.only c.functions is.functions)
         ∙ ap (option_map (begun_with c.max_op c.labels c.functions)) (extra_only c.extra is.extra)
 
--- ---- the bytes of their texts
+-- ---- no space stands in their texts
 
-extra_word : (extra : List ℕ) → IsBytes extra → IsWord (extra_text extra)
-extra_word [] fit = refl
-extra_word (b ∷ bytes) fit = hex_word (b ∷ bytes) fit
+extra_lacks : (extra : List ℕ) → IsBytes extra → Lacks 32 (extra_text extra)
+extra_lacks [] fit = lacks_from (λ b. b == 45) 32 (codes "-") refl refl
+extra_lacks (b ∷ bytes) fit = hex_lacks (b ∷ bytes) fit
 
-pub header_words : (c : CodeVal) → CodeIsListed c → AllByRecursion IsWord (header_fields c)
-header_words c is = (decimal_word c.max_op is.max_op, (decimal_word c.labels is.labels, (decimal_word c.functions is.functions, (extra_word c.extra is.extra, tt))))
+pub header_lacks : (c : CodeVal) → CodeIsListed c → AllByRecursion (Lacks 32) (header_fields c)
+header_lacks c is = (decimal_lacks c.max_op, (decimal_lacks c.labels, (decimal_lacks c.functions, (extra_lacks c.extra is.extra, tt))))

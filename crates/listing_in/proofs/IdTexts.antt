@@ -1,21 +1,24 @@
 -- Ids are read back from their texts.
-use Rattle.std.proofs.Common.{◌≡◌, ℕ, ◌==◌, Bool, true, false, not, cond, ◌&&◌, List, [], ◌∷◌, ◌++◌, length, Some, None, refl, sym, ap, subst, ◌∙◌, arith, inl, inr, eqb-true, eq-eqb, ne_eqb}
+use Rattle.std.proofs.Common.{◌≡◌, ◌≢◌, ℕ, ◌==◌, Bool, true, false, not, cond, ◌&&◌, List, [], ◌∷◌, ◌++◌, length, Some, None, refl, sym, ap, subst, ◌∙◌, arith, inl, inr, eqb-true, eq-eqb, ne_eqb}
 use Rattle.std.specs.Prelude.{codes}
 use Rattle.std.specs.Char.{is_ascii_alphanumeric}
 use Rattle.std.specs.List.{list_all}
 use Rattle.std.specs.Option.{option_and_then}
-use Rattle.std.proofs.lemmas.Bool.{and_parts, and_from, cases_Bool, false≢true}
+use Rattle.std.proofs.lemmas.Bool.{and_parts, and_from, cases_Bool, cond_both, false≢true}
+use Rattle.std.proofs.lemmas.List.Elements.{All-cons}
 use Rattle.std.proofs.lemmas.Option.{cond_some, none-some}
 use Rattle.hex.specs.Hex.{encode_lower}
 use Rattle.bk_codec.specs.Spelling.{IsBytes}
 use Rattle.bk_codec.proofs.Steps.{chosen}
 use Rattle.bk_parse.specs.HexBytes.{bytes_of}
 use Rattle.bk_parse.specs.Inverse.{Inverts}
+use Rattle.bk_parse.specs.Parts.{Lacks}
 use Rattle.bk_parse.proofs.Options.{then_some}
+use Rattle.bk_parse.proofs.Passing.{lacks_from}
 use Rattle.iff_form.specs.declared.id.Id.{Id}
 use Rattle.iff_form.specs.Text.{id_text, is_plain_id}
 use Rattle.listing_in.specs.Ids.{IsFourBytes, id_of, id_with, other_id, plain_id}
-use Rattle.listing_in.proofs.TextBytes.{IsWord, alphanumeric_small, alphanumeric_word, bytes_from, hex_word}
+use Rattle.listing_in.proofs.TextBytes.{alphanumeric_small, bytes_from, hex_lacks}
 
 -- ---- what is read
 
@@ -78,11 +81,10 @@ module _ (hex : Inverts bytes_of IsBytes encode_lower) where
   pub ids_invert : Inverts id_of IsFourBytes id_text
   ids_invert = record { found = found; only = only }
 
--- ---- the bytes of their texts
+-- ---- no space stands in their texts
 
-pub id_word : (x : Id) → IsFourBytes x → IsWord (id_text x)
-id_word x is =
-    elim (cases_Bool (is_plain_id x)) [
-      | inl plain ↦ subst IsWord (ap (λ (b : Bool). cond b x.0 (codes "#" ++ encode_lower x.0)) (sym plain)) (alphanumeric_word x.0 plain)
-      | inr other ↦ subst IsWord (ap (λ (b : Bool). cond b x.0 (codes "#" ++ encode_lower x.0)) (sym other)) (hex_word x.0 is.1)
-    ]
+pub id_lacks : (x : Id) → IsFourBytes x → Lacks 32 (id_text x)
+id_lacks x is =
+    let digits = encode_lower x.0 in
+    cond_both (is_plain_id x) x.0 (codes "#" ++ digits) (Lacks 32) (λ plain. lacks_from is_ascii_alphanumeric 32 x.0 refl plain)
+    (λ other. All-cons (λ b. b ≢ 32) 35 digits (λ same. omega (arith, same)) (hex_lacks x.0 is.1))

@@ -1,29 +1,29 @@
 -- Instructions are read back from their lines.
 use Rattle.std.proofs.Common.{◌≡◌, ℕ, ◌<◌, ◌==◌, Bool, true, cond, List, [], ◌∷◌, ◌++◌, length, map, All, Option, Some, None, Result, Ok, Err, refl, sym, ap, subst, ◌∙◌, inl, inr, append-nil, append_assoc, eqb-true, eq-eqb}
 use Rattle.std.specs.Prelude.{codes}
-use Rattle.std.specs.List.{AllByRecursion, find, flat_map, join_with_byte, list_all}
+use Rattle.std.specs.List.{flat_map, join_with_byte, list_all}
 use Rattle.std.specs.Option.{option_map}
-use Rattle.std.proofs.lemmas.Bool.{cases_Bool}
 use Rattle.std.proofs.lemmas.List.Elements.{All-head, All-tail, All-weaker}
 use Rattle.std.proofs.lemmas.List.Folds.{flat_map-map}
 use Rattle.bk_codec.proofs.Steps.{chosen, ok_is}
 use Rattle.bk_parse.specs.Inverse.{Inverts}
 use Rattle.bk_parse.specs.Parts.{Lacks, all_of, parts_at}
 use Rattle.bk_parse.proofs.Options.{map_some}
+use Rattle.bk_parse.proofs.Passing.{lacks_from}
 use Rattle.bk_parse.proofs.Splitting.{all_found, all_only, first_part, joined_parts, one_part}
 use Rattle.compact_term.specs.declared.operand.Operand.{Operand}
-use Rattle.op_table.specs.Table.{Row, is_name_byte, row_named, row_with, table}
+use Rattle.op_table.specs.Table.{Row, is_name_byte, row_named, row_with}
 use Rattle.op_table.specs.Instruction.{Instruction}
 use Rattle.operand_text.specs.Listed.{IsListed}
 use Rattle.operand_text.specs.Operand.{operand_text}
 use Rattle.operand_text.specs.Reading.{operand_of}
+use Rattle.operand_text.specs.Words.{is_word_byte}
 use Rattle.listing_out.specs.Lines.{instruction_line, name_of}
 use Rattle.listing_out.specs.Listable.{InstrIsListed}
 use Rattle.listing_in.specs.declared.refusal.ListingWhy.{ListingWhy}
 use Rattle.listing_in.specs.declared.refusal.ListingWhy.TheVariants as whys
 use Rattle.listing_in.specs.Instruction.{instruction_in, instruction_named, instruction_of, instruction_with}
 use Rattle.listing_in.proofs.LineTexts.{instruction_text}
-use Rattle.listing_in.proofs.TextBytes.{IsWord, lacks_space, name_word}
 
 -- ---- parts behind a separator each
 
@@ -38,27 +38,6 @@ parts_behind text c front (x ∷ xs) lack all =
 joined_behind : (c : ℕ) (front : List ℕ) (texts : List (List ℕ)) → join_with_byte c (front ∷ texts) ≡ front ++ flat_map (λ t. (c ∷ []) ++ t) texts
 joined_behind c front [] = sym (append-nil front)
 joined_behind c front (text ∷ texts) = ap (λ (t : List ℕ). front ++ (c ∷ t)) (joined_behind c text texts)
-
--- ---- rows
-
-found_passes : {X : Type 0} (test : X → Bool) (xs : List X) (x : X) → find test xs ≡ Some x → test x ≡ true
-found_passes test [] x found = absurd cc
-found_passes test (y ∷ ys) x found =
-    elim (cases_Bool (test y)) [
-      | inl is ↦ let same : Some y ≡ Some x = rw is at found in cc
-      | inr not ↦ let later : find test ys ≡ Some x = rw not at found in found_passes test ys x later
-    ]
-
-found_holds : {X : Type 0} (P : X → Type 0) (test : X → Bool) (xs : List X) (x : X) → AllByRecursion P xs → find test xs ≡ Some x → P x
-found_holds P test [] x all found = absurd cc
-found_holds P test (y ∷ ys) x all found =
-    elim (cases_Bool (test y)) [
-      | inl is ↦ let same : Some y ≡ Some x = rw is at found in let one : y ≡ x = cc in subst P one all.0
-      | inr not ↦ let later : find test ys ≡ Some x = rw not at found in found_holds P test ys x all.1 later
-    ]
-
-row_number : (op : ℕ) (r : Row) → row_with op ≡ Some r → r.op ≡ op
-row_number op r found = eqb-true r.op op (found_passes (λ q. q.op == op) table r found)
 
 -- ---- instructions
 
@@ -91,11 +70,12 @@ named_found name texts (Some row) i is e =
 
 -- the laws below: names and rows, and operands
 module _ (names_find : (op : ℕ) (r : Row) → row_with op ≡ Some r → row_named r.name ≡ Some r)
+    (rows_own : (op : ℕ) (r : Row) → row_with op ≡ Some r → r.op ≡ op)
     (rows_number : (name : List ℕ) (r : Row) → row_named name ≡ Some r → row_with r.op ≡ Some r)
     (rows_name : (name : List ℕ) (r : Row) → row_named name ≡ Some r → r.name ≡ name)
-    (names_are : AllByRecursion (λ r. (0 < length r.name) × (list_all is_name_byte r.name ≡ true)) table)
+    (names_are : (op : ℕ) (r : Row) → row_with op ≡ Some r → (0 < length r.name) × (list_all is_name_byte r.name ≡ true))
     (operands : Inverts operand_of IsListed operand_text)
-    (operand_word : (o : Operand) → IsListed o → IsWord (operand_text o)) where
+    (operand_word : (o : Operand) → IsListed o → list_all is_word_byte (operand_text o) ≡ true) where
   -- ---- what is read
 
   parts_found : (text : List ℕ) (parts : List (List ℕ)) (i : Instruction) → join_with_byte 32 parts ≡ text → instruction_in parts ≡ answer i → InstrIsListed i × (text ≡ instruction_text i)
@@ -118,16 +98,13 @@ module _ (names_find : (op : ℕ) (r : Row) → row_with op ≡ Some r → row_n
 
   -- ---- what is written
 
-  row_word : (op : ℕ) (r : Row) → row_with op ≡ Some r → IsWord r.name
-  row_word op r found = name_word r.name (found_holds (λ q. (0 < length q.name) × (list_all is_name_byte q.name ≡ true)) (λ q. q.op == op) table r names_are found).1
-
   operand_parts : (os : List Operand) → All IsListed os → All (λ o. Lacks 32 (operand_text o)) os
-  operand_parts os all = All-weaker IsListed (λ o. Lacks 32 (operand_text o)) (λ o is. lacks_space (operand_text o) (operand_word o is)) os all
+  operand_parts os all = All-weaker IsListed (λ o. Lacks 32 (operand_text o)) (λ o is. lacks_from is_word_byte 32 (operand_text o) refl (operand_word o is)) os all
 
   pub instruction_only : (i : Instruction) → InstrIsListed i → instruction_of (instruction_text i) ≡ Ok i
   instruction_only i is =
       let row = map_some (λ (r : Row). r.arity) (row_with i.op) (length i.operands) is.arity in
-      let lack : Lacks 32 row.0.name = lacks_space row.0.name (row_word i.op row.0 row.1) in
+      let lack : Lacks 32 row.0.name = lacks_from is_name_byte 32 row.0.name refl (names_are i.op row.0 row.1).1 in
       let parts : parts_at 32 (instruction_text i) ≡ row.0.name ∷ map operand_text i.operands =
       ap (λ (o : Option Row). parts_at 32 (name_of o ++ flat_map (λ o. codes " " ++ operand_text o) i.operands)) row.1
       ∙ parts_behind operand_text 32 row.0.name i.operands lack (operand_parts i.operands is.operands) in
@@ -135,4 +112,4 @@ module _ (names_find : (op : ℕ) (r : Row) → row_with op ≡ Some r → row_n
       ∙ ap (λ (o : Option Row). instruction_named o (map operand_text i.operands)) (names_find i.op row.0 row.1)
       ∙ ap (instruction_with row.0) (all_only operands i.operands is.operands)
       ∙ ap (λ (b : Bool). cond b (answer (record { op = row.0.op; operands = i.operands })) (Err whys.Operands)) (eq-eqb (length i.operands) row.0.arity (sym row.2))
-      ∙ ap (λ (op : ℕ). answer (record { op = op; operands = i.operands })) (row_number i.op row.0 row.1)
+      ∙ ap (λ (op : ℕ). answer (record { op = op; operands = i.operands })) (rows_own i.op row.0 row.1)

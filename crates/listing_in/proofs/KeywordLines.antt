@@ -1,15 +1,17 @@
 -- A line with a keyword begins a chunk, and is the only line of that chunk.
-use Rattle.std.proofs.Common.{◌≡◌, ◌≢◌, ℕ, zero, suc, ◌==◌, Bool, true, false, cond, All, List, [], ◌∷◌, ◌++◌, map, Option, Some, None, Err, refl, sym, ap, subst, ◌∙◌, inl, inr, arith, append_assoc, eq-eqb, ne_eqb}
+use Rattle.std.proofs.Common.{◌≡◌, ℕ, zero, suc, Bool, false, cond, List, [], ◌∷◌, ◌++◌, map, Option, Some, None, Err, refl, sym, ap, subst, ◌∙◌, inl, inr, arith, append_assoc}
 use Rattle.std.specs.Prelude.{codes, bytes_eq}
+use Rattle.std.specs.Char.{is_ascii_lowercase}
 use Rattle.std.specs.List.{AllByRecursion, join_with_byte}
 use Rattle.std.proofs.lemmas.Bool.{false_from_ne_true}
 use Rattle.std.proofs.lemmas.Bool.Decides.{not_from_Decides}
-use Rattle.std.proofs.lemmas.List.Elements.{All-from_recursion, All-weaker}
-use Rattle.std.proofs.lemmas.List.Splits.{join_with_byte-slice_split, slice_split_at, slice_split_none}
+use Rattle.std.proofs.lemmas.List.Elements.{All-from_recursion}
 use Rattle.std.proofs.lemmas.Slice.Eq.{bytes_eq-Decides}
 use Rattle.bk_codec.specs.Spelling.{IsBytes}
 use Rattle.bk_codec.proofs.Steps.{chosen, guard_ok, ok_is}
-use Rattle.bk_parse.specs.Parts.{parts_at}
+use Rattle.bk_parse.specs.Parts.{Lacks, parts_at}
+use Rattle.bk_parse.proofs.Passing.{lacks_from}
+use Rattle.bk_parse.proofs.Splitting.{joined_parts, parts_of_joined}
 use Rattle.iff_form.specs.declared.id.Id.{Id}
 use Rattle.iff_form.specs.Text.{id_text}
 use Rattle.code_chunk.specs.declared.code.CodeVal.{CodeVal}
@@ -26,42 +28,25 @@ use Rattle.listing_in.specs.State.{State, Filling, Coding, value_of}
 use Rattle.listing_in.specs.Step.{begun_as, chunk_begins, code_begins, is_seen, keyword_begins, payload_begins}
 use Rattle.listing_in.proofs.FileLines.{MayFollow, lines_push, push_listable}
 use Rattle.listing_in.proofs.LineStep.{Adds, answer, not_answer}
-use Rattle.listing_in.proofs.LineTexts.{IsOnePart, LineTexts}
+use Rattle.listing_in.proofs.LineTexts.{LineTexts}
+use Rattle.listing_in.proofs.TextBytes.{no_bytes}
 
 -- ---- lines and their parts
 
-no_space : (word : List ℕ) → IsOnePart word → All (λ b. (b == 32) ≡ false) word
-no_space word one = All-weaker (λ b. b ≢ 32) (λ b. (b == 32) ≡ false) (λ b other. ne_eqb b 32 other) word one
+parts_joined : (word : List ℕ) (words : List (List ℕ)) → AllByRecursion (Lacks 32) (word ∷ words) → parts_at 32 (join_with_byte 32 (word ∷ words)) ≡ word ∷ words
+parts_joined word words lack = parts_of_joined 32 (word ∷ words) (omega arith) (All-from_recursion (Lacks 32) (word ∷ words) lack)
 
--- the first part and those behind it
-parts_behind : (word rest : List ℕ) → IsOnePart word → parts_at 32 (word ++ 32 ∷ rest) ≡ word ∷ parts_at 32 rest
-parts_behind word rest one = slice_split_at (λ b. b == 32) word 32 rest (no_space word one) refl
+chunk_lacks : Lacks 32 (codes "chunk")
+chunk_lacks = lacks_from is_ascii_lowercase 32 (codes "chunk") refl refl
 
-part_alone : (word : List ℕ) → IsOnePart word → parts_at 32 word ≡ word ∷ []
-part_alone word one = slice_split_none (λ b. b == 32) word (no_space word one)
-
--- parts that are joined by spaces, and then told apart
-parts_joined : (word : List ℕ) (words : List (List ℕ)) → AllByRecursion IsOnePart (word ∷ words) → parts_at 32 (join_with_byte 32 (word ∷ words)) ≡ word ∷ words
-parts_joined word [] one = part_alone word one.0
-parts_joined word (next ∷ words) one = parts_behind word (join_with_byte 32 (next ∷ words)) one.0 ∙ ap (λ (parts : List (List ℕ)). word ∷ parts) (parts_joined next words one.1)
-
-not_space : (b : ℕ) → (b == 32) ≡ false → b ≢ 32
-not_space b e same = let is : (b == 32) ≡ true = eq-eqb b 32 same in cc
-
-word_chunk : IsOnePart (codes "chunk")
-word_chunk = All-from_recursion (λ b. b ≢ 32) (codes "chunk") (not_space 99 refl, (not_space 104 refl, (not_space 117 refl, (not_space 110 refl, (not_space 107 refl, tt)))))
-
-word_code : IsOnePart (codes "code")
-word_code = All-from_recursion (λ b. b ≢ 32) (codes "code") (not_space 99 refl, (not_space 111 refl, (not_space 100 refl, (not_space 101 refl, tt))))
+code_lacks : Lacks 32 (codes "code")
+code_lacks = lacks_from is_ascii_lowercase 32 (codes "code") refl refl
 
 -- the fields of a line of code, joined
 code_line_joined : (c : CodeVal) → join_with_byte 32 (codes "code" ∷ header_fields c) ≡ code_line c
 code_line_joined c = simp append_assoc
 
 -- ---- what is read
-
-nothing_fits : IsBytes []
-nothing_fits i = omega arith
 
 code_id_fits : IsBytes (codes "Code")
 code_id_fits zero = omega arith
@@ -106,7 +91,7 @@ module _ (texts : LineTexts) where
   opens_payload chunks (text ∷ []) t e =
       let read = payload_found chunks (id_of text) t e in
       let id = texts.ids.found text read.0 read.1 in
-      let listed : ChunkIsListed (read.0, Raw []) = record { id = id.0.0; id_bytes = id.0.1; value = nothing_fits } in
+      let listed : ChunkIsListed (read.0, Raw []) = record { id = id.0.0; id_bytes = id.0.1; value = no_bytes } in
       record {
         chunk = (read.0, Raw []);
         follows = record { new = read.3; kind = read.2; listed = listed };
@@ -144,7 +129,7 @@ module _ (texts : LineTexts) where
   pub keyword_adds : (chunks : List FileChunk) (line : List ℕ) (t : State) → IsListable chunks → keyword_begins chunks (parts_at 32 line) ≡ answer t → Adds t (lines chunks) line
   keyword_adds chunks line t is e =
       let o = opens chunks (parts_at 32 line) t e in
-      let own : chunk_lines o.chunk ≡ line ∷ [] = o.one ∙ ap (λ (l : List ℕ). l ∷ []) (join_with_byte-slice_split 32 line) in
+      let own : chunk_lines o.chunk ≡ line ∷ [] = o.one ∙ ap (λ (l : List ℕ). l ∷ []) (joined_parts 32 line) in
       rw o.value (push_listable chunks o.chunk is o.follows, lines_push chunks o.chunk ∙ ap (λ (ls : List (List ℕ)). lines chunks ++ ls) own)
 
   -- ---- what is read from the texts
@@ -155,7 +140,7 @@ module _ (texts : LineTexts) where
   pub payload_opened : (chunks : List FileChunk) (id : Id) → IsFourBytes id → IsNew id chunks → (id ≡ code_id → ⊥) → keyword_begins chunks (parts_at 32 (codes "chunk " ++ id_text id)) ≡ answer (Filling chunks id [])
   payload_opened chunks id four new other =
       let differs : bytes_eq id.0 code_id.0 ≡ false = false_from_ne_true (bytes_eq id.0 code_id.0) (λ e. other (same_id_from id code_id ((bytes_eq-Decides id.0 code_id.0).0 e))) in
-      ap (keyword_begins chunks) (parts_joined (codes "chunk") (id_text id ∷ []) (word_chunk, (texts.id_parts id four, tt)))
+      ap (keyword_begins chunks) (parts_joined (codes "chunk") (id_text id ∷ []) (chunk_lacks, (texts.id_lacks id four, tt)))
       ∙ ap (payload_begins chunks) (texts.ids.only id four)
       ∙ ap (λ (b : Bool). cond b (Err (stops.Wrong whys.Id)) (begun_as chunks id (Filling chunks id []))) differs
       ∙ new_begun chunks id (Filling chunks id []) new
@@ -164,6 +149,6 @@ module _ (texts : LineTexts) where
       → keyword_begins chunks (parts_at 32 (code_line c)) ≡ answer (Coding chunks (begun_with c.max_op c.labels c.functions c.extra))
   code_opened chunks c listed new =
       ap (λ (line : List ℕ). keyword_begins chunks (parts_at 32 line)) (sym (code_line_joined c))
-      ∙ ap (keyword_begins chunks) (parts_joined (codes "code") (header_fields c) (word_code, texts.header_parts c listed))
+      ∙ ap (keyword_begins chunks) (parts_joined (codes "code") (header_fields c) (code_lacks, texts.header_lacks c listed))
       ∙ ap (code_begins chunks) (texts.header_only c listed)
       ∙ new_begun chunks code_id (Coding chunks (begun_with c.max_op c.labels c.functions c.extra)) new

@@ -1,6 +1,7 @@
 pub mod Growth
 pub mod Numbered
 pub mod FileLines
+pub mod TextBytes
 pub mod PayloadRows
 pub mod LineTexts
 pub mod LineStep
@@ -10,7 +11,6 @@ pub mod WholeFile
 pub mod KeptLines
 pub mod ReadText
 pub mod OneLine
-pub mod TextBytes
 pub mod IdTexts
 pub mod HeaderFields
 pub mod InstructionLines

@@ -9,7 +9,7 @@ ghost use Rattle.listing_in.specs.Instruction.{instruction_of};
 use crate::refusal::ListingWhy;
 use crate::stop::{LineStop, stop_for};
 use bk_parse::{Parts, TextRefusal};
-use op_table::{Instr, OperandList, op_by_name, rows_have_their_numbers};
+use op_table::{Instr, OperandList, op_by_name};
 use operand_text::read_operand_text;
 use std::alloc::Global;
 
@@ -17,7 +17,6 @@ use std::alloc::Global;
 pub(crate) fn instruction_of(alloc: Global, text: &[u8]) -> Result<Instr, LineStop>
     ensures { GivesAll LineStop.NoMemory (λ i. i) result (refused_as LineStop.Wrong (instruction_of text.now)) }
 {
-    rows_have_their_numbers();
     let mut parts = Parts::new(text, b' ');
     let Some(name) = parts.next() else {
         return Err(LineStop::Wrong(ListingWhy::Op));
