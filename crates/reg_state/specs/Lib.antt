@@ -1,0 +1,5 @@
+pub mod Store
+pub mod Related
+pub mod Kinds
+pub mod States
+pub mod Join
