@@ -6,8 +6,8 @@ use Rattle.iff_form.specs.Chunk.{PlainChunk}
 use Rattle.iff_form.specs.Form.{payload_of}
 use Rattle.iff_form.specs.Reading.{form_of}
 use Rattle.beam_module.specs.File.{FileChunk}
-use Rattle.listing_in.specs.Reading.{listing_value}
 use Rattle.beam_module.specs.Reading.{file_of}
+use Rattle.listing_in.specs.Reading.{listing_value}
 use Rattle.beam_cli.specs.declared.refusal.Refusal.{Refusal}
 use Rattle.beam_cli.specs.declared.refusal.Refusal.TheVariants.{Form, Missing}
 use Rattle.beam_cli.specs.Reasons.{listing_refusal, module_refusal}
