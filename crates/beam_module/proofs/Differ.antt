@@ -5,6 +5,7 @@ use Rattle.std.specs.List.{AllByRecursion, filter}
 use Rattle.std.specs.Option.{is_some, is_none}
 use Rattle.std.proofs.lemmas.Bool.Decides.{not_from_Decides}
 use Rattle.std.proofs.lemmas.Map.Keys.{IsDistinct-head, IsDistinct-tail}
+use Rattle.std.proofs.lemmas.Option.{same_Some}
 use Rattle.std.proofs.lemmas.Slice.Eq.{bytes_eq-Decides}
 use Rattle.bk_codec.proofs.Steps.{chosen}
 use Rattle.iff_form.specs.declared.id.Id.{Id}
@@ -89,9 +90,6 @@ passes_from test (c ∷ chunks) id distinct h =
           (rest.0, found_later c chunks id rest.0 (IsDistinct-head is_same_id c chunks distinct) rest.1, rest.2)
     ]
 
-some_is : (x y : List ℕ) → Some x ≡ Some y → x ≡ y
-some_is x y h = cc
-
 among_from : (test : PlainChunk → Bool) (chunks : List PlainChunk) (id : Id) → Passes test chunks id → Among (ids_of (filter test chunks)) id
 among_from test [] id h = absurd (let e = h.1 in cc)
 among_from test (c ∷ chunks) id h =
@@ -99,7 +97,7 @@ among_from test (c ∷ chunks) id h =
       | inl here ↦
           let same : c.id ≡ id = same_id_from c.id id here.0 in
           let passed : test c ≡ true =
-          ap (λ (i : Id). test (chunk i c.payload)) same ∙ ap (λ (p : List ℕ). test (chunk id p)) (some_is c.payload h.0 here.1) ∙ h.2 in
+          ap (λ (i : Id). test (chunk i c.payload)) same ∙ ap (λ (p : List ℕ). test (chunk id p)) (same_Some c.payload h.0 here.1) ∙ h.2 in
           kept_here (test c) c (filter test chunks) id passed (sym same)
       | inr later ↦ kept_later (test c) c (filter test chunks) id (among_from test chunks id (h.0, later.1, h.2))
     ]
@@ -161,7 +159,7 @@ none_or_some h = cc
 differs : (payload : List ℕ) (other : Option (List ℕ)) → is_other payload other ≡ true → Some payload ≢ other
 differs payload None h e = cc
 differs payload (Some q) h e =
-    let same : bytes_eq payload q ≡ true = (bytes_eq-Decides payload q).1 (some_is payload q e) in
+    let same : bytes_eq payload q ≡ true = (bytes_eq-Decides payload q).1 (same_Some payload q e) in
     absurd (let t : not true ≡ true = ap not (sym same) ∙ h in cc)
 
 changed_from : (a b : List PlainChunk) (id : Id) → Passes (is_changed b) a id → IsChanged a b id

@@ -55,6 +55,3 @@ lines chunks = codes "beam 1" ∷ flat_map chunk_lines chunks
 -- lines as text, each with a newline
 abbrev pub text_of : List (List ℕ) → List ℕ
 text_of ls = flat_map (λ line. line ++ codes "\n") ls
-
-abbrev pub listing_of : List FileChunk → List ℕ
-listing_of chunks = text_of (lines chunks)
