@@ -9,3 +9,4 @@ pub mod LineStops
 pub mod LineRefusals
 pub mod LineSteadiness
 pub mod LiteralSteadiness
+pub mod LiteralCounting

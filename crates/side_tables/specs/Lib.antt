@@ -7,3 +7,4 @@ pub mod LineText
 pub mod LiteralSpelling
 pub mod LiteralReading
 pub mod LiteralText
+pub mod LiteralCount

@@ -1,17 +1,18 @@
 //! The text of a payload of literals, with one term kept at a time.
 
-ghost use Rattle.std.specs.Prelude.{◌≡◌, ◌++◌, IsOk, IfErr, OnOk};
-ghost use Rattle.bk_codec.specs.Reading.{Gives, GivesAll, made_of, many_at, ended};
+ghost use Rattle.std.specs.Prelude.{◌≡◌, ◌++◌, IfErr};
+ghost use Rattle.bk_codec.specs.Reading.{Gives, GivesAll, made_of, many_at};
 ghost use Rattle.bk_text.specs.Lines.{numbered_lines};
 ghost use Rattle.side_tables.specs.LiteralReading.{literal_at, literals_of};
 ghost use Rattle.side_tables.specs.LiteralText.{literal_line, literals_shown};
 ghost use Rattle.side_tables.specs.declared.refusal.SideRefusal.TheVariants as refusals;
 
-use crate::literal_reading::{literal, sized};
+use crate::literal_counting::pass_literals;
+use crate::literal_reading::literal;
 use crate::literal_text::put_literal;
 use crate::refusal::SideRefusal;
 use bk_base::{Bytes, Cursor};
-use bk_codec::{end, word};
+use bk_codec::word;
 use std::alloc::Global;
 
 /// The text of the table of literals that the payload is: what [`crate::literals_text`] writes of what
@@ -36,18 +37,6 @@ pub fn literals_shown(alloc: Global, s: &[u8]) -> Result<Bytes, SideRefusal>
     pass_literals(cur.rest(), count)?;
     show_literals(alloc, &mut out, &mut cur, count)?;
     Ok(out)
-}
-
-// Passes over so many literals, which are all of the bytes.
-fn pass_literals(bytes: &[u8], count: u32) -> Result<(), SideRefusal>
-    ensures ok { OnOk result (IsOk (ended refusals.Rest (many_at literal_at count bytes.now))) }
-    ensures err { IfErr result (λ e. ended refusals.Rest (many_at literal_at count bytes.now) ≡ Err e) }
-{
-    let mut cur = Cursor::new(bytes);
-    for _ in 0..count {
-        sized(&mut cur)?;
-    }
-    end(&cur, SideRefusal::Rest)
 }
 
 // Reads so many literals, and puts the line of each at the end before it reads the next.

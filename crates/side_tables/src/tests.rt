@@ -102,3 +102,25 @@ fn literals_are_read_and_shown(rt: HostRuntime) -> Result<(), Fail> {
     }
     Ok(())
 }
+
+#[test]
+fn literals_are_counted(rt: HostRuntime) -> Result<(), Fail> {
+    for (payload, count) in [
+        (b"\0\0\0\x09\0".as_slice(), Ok(None)),
+        (b"\0\0\0\0\0\0\0\0".as_slice(), Ok(Some(0))),
+        (
+            b"\0\0\0\0\0\0\0\x02\0\0\0\x03\x83\x61\x05\0\0\0\x02\x83\x46".as_slice(),
+            Ok(Some(2)),
+        ),
+        (b"\0\0\0".as_slice(), Err(SideRefusal::Cut)),
+        (b"\0\0\0\0\0\0\0".as_slice(), Err(SideRefusal::Cut)),
+        (
+            b"\0\0\0\0\0\0\0\x01\0\0\0\x02\x83".as_slice(),
+            Err(SideRefusal::Cut),
+        ),
+        (b"\0\0\0\0\0\0\0\0\0".as_slice(), Err(SideRefusal::Rest)),
+    ] {
+        assert_eq!(rt; count_literals(payload), count, "{payload:?}");
+    }
+    Ok(())
+}

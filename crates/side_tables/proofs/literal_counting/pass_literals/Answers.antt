@@ -1,7 +1,7 @@
 use Rattle.bk_codec.specs.Reading.{many_at}
 use Rattle.side_tables.specs.LiteralReading.{literal_at}
 use Rattle.side_tables.proofs.LiteralShowing.{passes_on}
-use Rattle.side_tables.proofs.literal_showing.pass_literals.Goals as goal
+use Rattle.side_tables.proofs.literal_counting.pass_literals.Goals as goal
 
 pub loop-preserved : goal.loop-preserved
 loop-preserved c =
