@@ -1,0 +1,13 @@
+pub mod Walk
+pub mod Following
+pub mod LabelPlaces
+pub mod Joining
+pub mod Cutting
+pub mod Taking
+pub mod Exact
+pub mod Standing
+pub mod Known
+pub mod Entering
+pub mod Methods
+pub mod Passing
+pub mod Answering
