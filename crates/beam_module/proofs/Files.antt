@@ -40,15 +40,15 @@ module _ (forms_exact : IsExact form_of IsForm) (codes_exact : IsExact code_at S
         refused = λ bytes fits. (λ e v is. (exact.refused bytes fits).0 e v (fits, is), λ none. (exact.refused bytes fits).1 (λ v is. none v is.1));
       }
 
--- ---- what a call that reads a file answers
+-- ---- what a call answers that reads the whole of bytes
 
-pub answer_found : (bytes : List ℕ) (answer : Result (List FileChunk) ModuleRefusal) → IsExact file_of IsFile → IsBytes bytes → GivesAll refusals.NoMemory (λ v. v) answer (file_of bytes)
-    → IfOk answer (λ v. IsFile v bytes)
-answer_found bytes (Ok v) exact fits gives = (exact.accepted bytes v fits).0 gives
-answer_found bytes (Err e) exact fits gives = tt
+module _ {A : Type 0} {read : List ℕ → Result A ModuleRefusal} {R : A → List ℕ → Type 0} where
+  pub answer_found : (bytes : List ℕ) (answer : Result A ModuleRefusal) → IsExact read R → IsBytes bytes → GivesAll refusals.NoMemory (λ v. v) answer (read bytes) → IfOk answer (λ v. R v bytes)
+  answer_found bytes (Ok v) exact fits gives = (exact.accepted bytes v fits).0 gives
+  answer_found bytes (Err e) exact fits gives = tt
 
-pub answer_only : (bytes : List ℕ) (answer : Result (List FileChunk) ModuleRefusal) → IsExact file_of IsFile → IsBytes bytes → GivesAll refusals.NoMemory (λ v. v) answer (file_of bytes)
-    → (v : List FileChunk) → IsFile v bytes → (answer ≡ Ok v) ⊎ (answer ≡ Err refusals.NoMemory)
-answer_only bytes (Ok w) exact fits gives v is = inl (sym gives ∙ (exact.accepted bytes v fits).1 is)
-answer_only bytes (Err e) exact fits (inl none) v is = inr (ap (λ (d : ModuleRefusal). Err d) none)
-answer_only bytes (Err e) exact fits (inr refused) v is = let read = (exact.accepted bytes v fits).1 is in absurd cc
+  pub answer_only : (bytes : List ℕ) (answer : Result A ModuleRefusal) → IsExact read R → IsBytes bytes → GivesAll refusals.NoMemory (λ v. v) answer (read bytes)
+      → (v : A) → R v bytes → (answer ≡ Ok v) ⊎ (answer ≡ Err refusals.NoMemory)
+  answer_only bytes (Ok w) exact fits gives v is = inl (sym gives ∙ (exact.accepted bytes v fits).1 is)
+  answer_only bytes (Err e) exact fits (inl none) v is = inr (ap (λ (d : ModuleRefusal). Err d) none)
+  answer_only bytes (Err e) exact fits (inr refused) v is = let both = (exact.accepted bytes v fits).1 is in absurd cc

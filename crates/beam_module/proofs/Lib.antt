@@ -8,3 +8,5 @@ pub mod Differ
 pub mod Names
 pub mod ByIds
 pub mod Kept
+pub mod Openings
+pub mod OneModule

@@ -4,3 +4,5 @@ pub mod Canonical
 pub mod Strip
 pub mod Comparison
 pub mod Name
+pub mod Module
+pub mod Opening

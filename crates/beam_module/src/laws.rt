@@ -10,7 +10,9 @@ ghost use Rattle.beam_module.specs.declared.comparison.Compared.{Compared};
 ghost use Rattle.beam_module.specs.Canonical.{FileMeetsType, IsCanonical, IsWritable, canonical_file};
 ghost use Rattle.beam_module.specs.Comparison.{Compares, comparison};
 ghost use Rattle.beam_module.specs.File.{AreChunks, FileChunk, IsFile};
+ghost use Rattle.beam_module.specs.Module.{IsModule, ModuleValue};
 ghost use Rattle.beam_module.specs.Name.{IsModuleName, name_of};
+ghost use Rattle.beam_module.specs.Opening.{module_of};
 ghost use Rattle.beam_module.specs.Reading.{file_of};
 
 /// The reading from left to right gives a value exactly where the bytes are a file of it, and refuses
@@ -84,3 +86,28 @@ pub fn comparison_tells_what_differs()
 pub fn one_comparison()
     ensures { (a b : List PlainChunk) (a_name b_name : List ℕ) (x y : Compared) → Compares a a_name b b_name x → Compares a a_name b b_name y → x ≡ y }
 {}
+
+/// The opening from left to right gives a module exactly where the bytes are it, and refuses exactly
+/// the bytes that are none.
+pub fn opening_is_exact()
+    ensures { IsExact module_of IsModule }
+{
+    iff_form::reading_is_exact();
+    iff_form::payloads_are_bytes();
+    code_chunk::reading_is_exact();
+    func_split::splitting_is_exact();
+    index_tables::reading_is_exact();
+    side_tables::reading_is_exact();
+}
+
+/// Bytes are one module at most.
+pub fn one_module()
+    ensures { (bytes : List ℕ) (m n : ModuleValue) → IsModule m bytes → IsModule n bytes → m ≡ n }
+{
+    iff_form::one_form();
+    code_chunk::one_code();
+    func_split::one_split();
+    index_tables::atoms_are_decided();
+    index_tables::entries_are_decided();
+    side_tables::one_literal_table();
+}

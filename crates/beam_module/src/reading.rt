@@ -1,7 +1,8 @@
 //! Reading a file.
 
-ghost use Rattle.std.specs.Prelude.{◌≡◌, ◌⊎◌, List, codes, true, bytes_eq, IfOk, Ok, Err};
-ghost use Rattle.bk_codec.specs.Reading.{GivesAll};
+ghost use Rattle.std.specs.Prelude.{◌≡◌, ◌⊎◌, List, IfOk, Ok, Err};
+ghost use Rattle.bk_codec.specs.Reading.{GivesAll, refused_as};
+ghost use Rattle.code_chunk.specs.Reading.{code_at};
 ghost use Rattle.iff_form.specs.Chunk.{plain, plains};
 ghost use Rattle.iff_form.specs.Form.{IsForm};
 ghost use Rattle.beam_module.specs.File.{AreChunks, FileChunk, IsFile};
@@ -12,14 +13,15 @@ use crate::chunk_value::ChunkVal;
 use crate::file_value::FileVal;
 use crate::refusal::ModuleRefusal;
 use bk_base::ByteList;
-use code_chunk::{CodeRefusal, read_code};
+use code_chunk::{CodeRefusal, CodeVal, read_code};
 use iff_form::{Chunk, Form, FormRefusal, Id, read_form};
 use std::alloc::Global;
 
-// The id of the chunk that holds the code.
-const CODE: Id = Id(*b"Code");
+/// The id of the chunk that holds the code.
+pub(crate) const CODE: Id = Id(*b"Code");
 
-fn form_from<'a>(alloc: Global, bytes: &'a [u8]) -> Result<Form<'a>, ModuleRefusal>
+/// The form that the bytes are.
+pub(crate) fn form_from<'a>(alloc: Global, bytes: &'a [u8]) -> Result<Form<'a>, ModuleRefusal>
     ensures found { IfOk result (λ chunks. IsForm chunks bytes.now) }
     ensures exact { GivesAll ModuleRefusal.NoMemory (λ chunks. chunks) result (form_or bytes.now) }
 {
@@ -30,12 +32,12 @@ fn form_from<'a>(alloc: Global, bytes: &'a [u8]) -> Result<Form<'a>, ModuleRefus
     }
 }
 
-fn code_from(alloc: Global, chunk: &Chunk<'_>) -> Result<ChunkVal, ModuleRefusal>
-    requires { bytes_eq chunk.now.id.0 (codes "Code") ≡ true }
-    ensures { GivesAll ModuleRefusal.NoMemory (λ v. (chunk.now.id, v)) result (value_of (plain chunk.now)) }
+/// The code of a payload, which is that of the chunk `Code`.
+pub(crate) fn code_of(alloc: Global, payload: &[u8]) -> Result<CodeVal, ModuleRefusal>
+    ensures { GivesAll ModuleRefusal.NoMemory (λ code. code) result (refused_as ModuleRefusal.Code (code_at payload.now)) }
 {
-    match read_code(alloc, chunk.payload) {
-        Ok(code) => Ok(ChunkVal::Code(code)),
+    match read_code(alloc, payload) {
+        Ok(code) => Ok(code),
         Err(CodeRefusal::NoMemory) => Err(ModuleRefusal::NoMemory),
         Err(refusal) => Err(ModuleRefusal::Code(refusal)),
     }
@@ -45,7 +47,7 @@ fn value_from(alloc: Global, chunk: &Chunk<'_>) -> Result<ChunkVal, ModuleRefusa
     ensures { GivesAll ModuleRefusal.NoMemory (λ v. (chunk.now.id, v)) result (value_of (plain chunk.now)) }
 {
     if chunk.id == CODE {
-        return code_from(alloc, chunk);
+        return Ok(ChunkVal::Code(code_of(alloc, chunk.payload)?));
     }
     Ok(ChunkVal::Raw(ByteList::from_slice(alloc, chunk.payload)?))
 }

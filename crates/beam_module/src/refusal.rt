@@ -5,6 +5,7 @@ ghost use Rattle.beam_module.specs.declared.refusal.ModuleRefusal.TheVariants as
 
 use bk_base::NoMemory;
 use code_chunk::CodeRefusal;
+use func_split::{FunctionWhy, SplitRefusal};
 use iff_form::{FormRefusal, Id};
 use index_tables::TableRefusal;
 use side_tables::SideRefusal;
@@ -37,6 +38,9 @@ pub enum ModuleRefusal {
     /// The payload of the chunk `Code` is no code.
     #[error("Code: {0}")]
     Code(CodeRefusal),
+    /// The code is not functions: this is wrong at the instruction with this number, counted from 0.
+    #[error("Code: {why} at instruction {at}")]
+    Functions { at: usize, why: FunctionWhy },
     /// Memory ran out.
     #[error("out of memory")]
     NoMemory,
@@ -47,6 +51,19 @@ impl From<NoMemory> for ModuleRefusal {
 
     fn from(_e: NoMemory) -> ModuleRefusal {
         ModuleRefusal::NoMemory
+    }
+}
+
+impl From<SplitRefusal> for ModuleRefusal {
+    ghost use Rattle.beam_module.specs.Opening.{split_refusal};
+
+    ghost from_gives = { λ d e. e ≡ split_refusal d };
+
+    fn from(e: SplitRefusal) -> ModuleRefusal {
+        match e {
+            SplitRefusal::Functions { at, why } => ModuleRefusal::Functions { at, why },
+            SplitRefusal::NoMemory => ModuleRefusal::NoMemory,
+        }
     }
 }
 

@@ -1,8 +1,9 @@
 use super::*;
-use bk_base::Text;
+use bk_base::{Bytes, Text};
 use code_chunk::CodeRefusal;
-use iff_form::{FormRefusal, Id, read_form};
+use iff_form::{FormRefusal, Id, put_head, read_form};
 use index_tables::TableRefusal;
+use side_tables::SideRefusal;
 use std::test::Fail;
 
 const SAMPLE: &[u8] = b"FOR1\0\0\0\x3cBEAM\
@@ -141,5 +142,161 @@ fn modules_are_compared(rt: HostRuntime) -> Result<(), Fail> {
     names_are_exact();
     comparison_tells_what_differs();
     one_comparison();
+    Ok(())
+}
+
+// Chunks, each with its padding: atoms `m` and `f`, and a function `f/1` that returns.
+const ATOMS: &[u8] = b"AtU8\0\0\0\x08\0\0\0\x02\x01m\x01f";
+
+const CODE: &[u8] = b"Code\0\0\0\x1e\0\0\0\x10\0\0\0\0\0\0\0\x13\0\0\0\x03\0\0\0\x01\
+\x01\x10\x02\x12\x22\x10\x01\x20\x13\x03\0\0";
+
+const IMPORTS: &[u8] = b"ImpT\0\0\0\x10\0\0\0\x01\0\0\0\x01\0\0\0\x02\0\0\0\x03";
+
+const FUNS: &[u8] =
+    b"FunT\0\0\0\x1c\0\0\0\x01\0\0\0\x02\0\0\0\x01\0\0\0\x02\0\0\0\0\0\0\0\0\0\0\0\0";
+
+const TWO_LITERALS: &[u8] =
+    b"LitT\0\0\0\x15\0\0\0\0\0\0\0\x02\0\0\0\x03\x83\x61\x05\0\0\0\x02\x83\x46\0\0\0";
+
+const PACKED: &[u8] = b"LitT\0\0\0\x05\0\0\0\x09\0\0\0\0";
+
+// The same, each with something wrong: no atom, and code that is one `return`.
+const NO_ATOM: &[u8] = b"AtU8\0\0\0\x04\0\0\0\0";
+
+const RETURN: &[u8] = b"Code\0\0\0\x15\0\0\0\x10\0\0\0\0\0\0\0\x13\0\0\0\x01\0\0\0\0\x13\0\0\0";
+
+const CUT_CHUNK: &[u8] = b"AtU8\0\0\0\x05";
+
+const CUT_ATOMS: &[u8] = b"AtU8\0\0\0\0";
+
+const CUT_CODE: &[u8] = b"Code\0\0\0\0";
+
+const CUT_IMPORTS: &[u8] = b"ImpT\0\0\0\0";
+
+const CUT_EXPORTS: &[u8] = b"ExpT\0\0\0\0";
+
+const CUT_LOCALS: &[u8] = b"LocT\0\0\0\0";
+
+const CUT_FUNS: &[u8] = b"FunT\0\0\0\0";
+
+const CUT_LITERALS: &[u8] = b"LitT\0\0\0\0";
+
+// The form of these chunks.
+fn form_of(rt: &impl AllocGlobal, chunks: &[&[u8]]) -> Result<Bytes, Fail> {
+    let mut body = Bytes::new(rt.alloc());
+    for chunk in chunks {
+        body.extend(chunk)?;
+    }
+    let mut file = Bytes::new(rt.alloc());
+    put_head(&mut file, body.len().saturating_add(4) as u32)?;
+    file.extend(body.as_slice())?;
+    Ok(file)
+}
+
+// That a table is cut.
+fn cut_table(id: &[u8; 4]) -> ModuleRefusal {
+    ModuleRefusal::Table {
+        id: Id(*id),
+        why: TableWhy::Index(TableRefusal::Cut),
+    }
+}
+
+#[test]
+fn modules_are_refused_in_order(rt: HostRuntime) -> Result<(), Fail> {
+    let side = TableWhy::Side(SideRefusal::Cut);
+    let literals = Id(*b"LitT");
+    let atoms = Id(*b"AtU8");
+    let code = Id(*b"Code");
+    // each with two things wrong, but for the last
+    for (chunks, refusal) in [
+        (
+            [CUT_CHUNK].as_slice(),
+            ModuleRefusal::Form(FormRefusal::ChunkCut { at: 12 }),
+        ),
+        ([].as_slice(), ModuleRefusal::Missing { id: atoms }),
+        ([CUT_ATOMS].as_slice(), ModuleRefusal::Missing { id: code }),
+        ([CUT_CODE, CUT_ATOMS].as_slice(), cut_table(b"AtU8")),
+        (
+            [CUT_CODE, NO_ATOM].as_slice(),
+            ModuleRefusal::Missing { id: atoms },
+        ),
+        (
+            [CUT_IMPORTS, CUT_CODE, ATOMS].as_slice(),
+            ModuleRefusal::Code(CodeRefusal::Header),
+        ),
+        (
+            [CUT_EXPORTS, CUT_IMPORTS, CODE, ATOMS].as_slice(),
+            cut_table(b"ImpT"),
+        ),
+        (
+            [CUT_LOCALS, CUT_EXPORTS, CODE, ATOMS].as_slice(),
+            cut_table(b"ExpT"),
+        ),
+        (
+            [CUT_FUNS, CUT_LOCALS, CODE, ATOMS].as_slice(),
+            cut_table(b"LocT"),
+        ),
+        (
+            [CUT_LITERALS, CUT_FUNS, CODE, ATOMS].as_slice(),
+            cut_table(b"FunT"),
+        ),
+        (
+            [CUT_LITERALS, RETURN, ATOMS].as_slice(),
+            ModuleRefusal::Table {
+                id: literals,
+                why: side,
+            },
+        ),
+        (
+            [RETURN, ATOMS].as_slice(),
+            ModuleRefusal::Functions {
+                at: 0,
+                why: FunctionWhy::Start,
+            },
+        ),
+    ] {
+        let file = form_of(&rt, chunks)?;
+        assert_eq!(rt;
+            open_module(rt.alloc(), file.as_slice()).err(),
+            Some(refusal)
+        );
+    }
+    opening_is_exact();
+    one_module();
+    Ok(())
+}
+
+#[test]
+fn modules_are_opened(rt: HostRuntime) -> Result<(), Fail> {
+    let file = form_of(&rt, &[PACKED, FUNS, IMPORTS, CODE, ATOMS])?;
+    let module = open_module(rt.alloc(), file.as_slice())?;
+    assert_eq!(rt; module.form().chunks().len(), 5);
+    assert_eq!(rt; module.functions(), 1);
+    let mut seen = None;
+    if let Some(function) = module.function(0) {
+        assert_eq!(rt; (function.first(), function.entry()), (0, 2));
+        assert_eq!(rt; (function.arity(), function.name()), (1, 2));
+        assert_eq!(rt;
+            (function.place_of(2), function.place_of(3)),
+            (Some(2), None)
+        );
+        seen = Some(function.instrs().len());
+    }
+    assert_eq!(rt; seen, Some(4));
+    assert!(rt; module.function(1).is_none());
+    assert_eq!(rt; (module.entry_of(2), module.entry_of(1)), (Some(1), None));
+    assert_eq!(rt; module.atoms().len(), 2);
+    assert_eq!(rt; module.imports().get(0).map(|import| import.arity), Some(3));
+    assert_eq!(rt; module.funs().get(0).map(|fun| fun.label), Some(2));
+    assert_eq!(rt; module.literals(), None);
+    for (chunks, count) in [
+        ([CODE, ATOMS].as_slice(), Some(0)),
+        ([TWO_LITERALS, CODE, ATOMS].as_slice(), Some(2)),
+    ] {
+        let file = form_of(&rt, chunks)?;
+        let module = open_module(rt.alloc(), file.as_slice())?;
+        assert_eq!(rt; module.literals(), count);
+    }
     Ok(())
 }
