@@ -13,12 +13,14 @@ use Rattle.side_tables.specs.declared.refusal.SideRefusal.{SideRefusal}
 use Rattle.side_tables.specs.declared.refusal.SideRefusal.TheVariants as side_refusals
 use Rattle.ext_term.specs.declared.refusal.TermRefusal.{TermRefusal}
 use Rattle.ext_term.specs.declared.refusal.TermRefusal.TheVariants as term_refusals
+use Rattle.func_split.specs.declared.refusal.FunctionWhy.{FunctionWhy}
+use Rattle.func_split.specs.declared.refusal.FunctionWhy.TheVariants as faults
 use Rattle.listing_in.specs.declared.refusal.ListingRefusal.{ListingRefusal}
 use Rattle.listing_in.specs.declared.refusal.ListingRefusal.TheVariants as listing_refusals
 use Rattle.listing_in.specs.declared.refusal.ListingWhy.{ListingWhy}
 use Rattle.listing_in.specs.declared.refusal.ListingWhy.TheVariants as whys
 use Rattle.beam_cli.specs.declared.refusal.Refusal.{Refusal}
-use Rattle.beam_cli.specs.declared.refusal.Refusal.TheVariants.{Form, Missing, Table, Side, Term, Code, Listing, NoMemory}
+use Rattle.beam_cli.specs.declared.refusal.Refusal.TheVariants.{Form, Missing, Table, Side, Term, Code, Functions, Listing, NoMemory}
 use Rattle.iff_form.specs.Text.{id_text}
 
 -- a message of this text
@@ -97,6 +99,18 @@ code_refusal_text (code_refusals.Opcode at op) = codes "opcode " ++ (decimal op 
 code_refusal_text (code_refusals.Operand at why) = codes "operand at " ++ (decimal at ++ (codes ": " ++ operand_refusal_text why))
 code_refusal_text code_refusals.NoMemory = codes "out of memory"
 
+-- what is wrong with code at one of its instructions
+abbrev pub function_why_text : FunctionWhy → List ℕ
+function_why_text faults.Start = codes "start"
+function_why_text faults.NoLabel = codes "no label"
+function_why_text faults.NoEntry = codes "no entry"
+function_why_text faults.Shape = codes "shape"
+function_why_text faults.LabelTwice = codes "label twice"
+function_why_text faults.LabelRange = codes "label range"
+function_why_text faults.End = codes "end"
+function_why_text faults.Long = codes "long"
+function_why_text faults.Count = codes "count"
+
 -- what is wrong with a line
 abbrev pub why_text : ListingWhy → List ℕ
 why_text whys.Head = codes "head"
@@ -122,5 +136,6 @@ refusal_text (Table id e) = id_text id ++ (codes ": " ++ table_refusal_text e)
 refusal_text (Side id e) = id_text id ++ (codes ": " ++ side_refusal_text e)
 refusal_text (Term id e) = id_text id ++ (codes ": " ++ term_refusal_text e)
 refusal_text (Code e) = codes "Code: " ++ code_refusal_text e
+refusal_text (Functions at why) = codes "functions: " ++ (function_why_text why ++ (codes " at " ++ decimal at))
 refusal_text (Listing e) = listing_refusal_text e
 refusal_text NoMemory = codes "out of memory"

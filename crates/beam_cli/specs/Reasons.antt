@@ -18,7 +18,7 @@ use Rattle.beam_module.specs.declared.refusal.TableWhy.TheVariants as whys
 use Rattle.listing_in.specs.declared.refusal.ListingRefusal.{ListingRefusal}
 use Rattle.listing_in.specs.declared.refusal.ListingRefusal.TheVariants as listings
 use Rattle.beam_cli.specs.declared.refusal.Refusal.{Refusal}
-use Rattle.beam_cli.specs.declared.refusal.Refusal.TheVariants.{Form, Missing, Table, Side, Term, Code, Listing, NoMemory}
+use Rattle.beam_cli.specs.declared.refusal.Refusal.TheVariants.{Form, Missing, Table, Side, Term, Code, Functions, Listing, NoMemory}
 
 abbrev pub IsReason : Refusal → Type 0
 IsReason (Form forms.NoMemory) = ⊥
@@ -68,4 +68,5 @@ module_refusal (modules.Missing id) = Missing id
 module_refusal (modules.Table id (whys.Index e)) = table_refusal id e
 module_refusal (modules.Table id (whys.Side e)) = side_refusal id e
 module_refusal (modules.Code e) = code_refusal e
+module_refusal (modules.Functions at why) = Functions at why
 module_refusal modules.NoMemory = NoMemory

@@ -3,7 +3,7 @@
 ghost use Rattle.std.specs.Prelude.{◌≡◌};
 ghost use Rattle.beam_cli.specs.declared.refusal.Refusal.TheVariants as refusals;
 
-use beam_module::{ModuleRefusal, TableWhy};
+use beam_module::{FunctionWhy, ModuleRefusal, TableWhy};
 use bk_base::NoMemory;
 use code_chunk::CodeRefusal;
 use compact_term::OperandRefusal;
@@ -29,6 +29,8 @@ pub enum Refusal {
     Term(Id, TermRefusal),
     /// The payload of the chunk `Code` is no code.
     Code(CodeRefusal),
+    /// The code is not functions: this is wrong at the instruction with this number, counted from 0.
+    Functions(usize, FunctionWhy),
     /// The text is no listing.
     Listing(ListingRefusal),
     /// Memory ran out.
@@ -66,6 +68,7 @@ impl Refusal {
                 why: TableWhy::Side(refusal),
             } => Refusal::of_side(id, refusal),
             ModuleRefusal::Code(refusal) => Refusal::of_code(refusal),
+            ModuleRefusal::Functions { at, why } => Refusal::Functions(at, why),
             ModuleRefusal::NoMemory => Refusal::NoMemory,
         }
     }

@@ -1,14 +1,15 @@
 //! The messages, which take no memory.
 
-ghost use Rattle.std.specs.Prelude.{◌≡◌, ◌++◌, List, ℕ, codes};
+ghost use Rattle.std.specs.Prelude.{◌≡◌, ◌++◌, List, ℕ, codes, decimal};
 ghost use Rattle.bk_port.specs.Writing.{joined};
-ghost use Rattle.beam_cli.specs.Message.{line, line_about, code_refusal_text, form_refusal_text, listing_refusal_text, why_text, operand_refusal_text, refusal_text, side_refusal_text, table_refusal_text, term_refusal_text, usage_line, write_fault_line};
+ghost use Rattle.beam_cli.specs.Message.{line, line_about, code_refusal_text, form_refusal_text, function_why_text, listing_refusal_text, why_text, operand_refusal_text, refusal_text, side_refusal_text, table_refusal_text, term_refusal_text, usage_line, write_fault_line};
 ghost use Rattle.iff_form.specs.Text.{id_text};
 ghost use Rattle.beam_cli.specs.Outcome.{IsSaid};
 ghost use Rattle.beam_cli.specs.Stopping.{message_of};
 
 use crate::refusal::Refusal;
 use crate::stop::Stop;
+use beam_module::FunctionWhy;
 use bk_base::Text;
 use bk_port::{MOST_BYTES, Sink, emit_all};
 use code_chunk::CodeRefusal;
@@ -200,6 +201,37 @@ fn say_code<E: Sink>(err: &mut E, name: &Text, refusal: CodeRefusal)
     }
 }
 
+// What is wrong with code at one of its instructions.
+fn function_why_text(why: FunctionWhy) -> &'static [u8]
+    ensures { result.now ≡ function_why_text why }
+{
+    match why {
+        FunctionWhy::Start => b"start",
+        FunctionWhy::NoLabel => b"no label",
+        FunctionWhy::NoEntry => b"no entry",
+        FunctionWhy::Shape => b"shape",
+        FunctionWhy::LabelTwice => b"label twice",
+        FunctionWhy::LabelRange => b"label range",
+        FunctionWhy::End => b"end",
+        FunctionWhy::Long => b"long",
+        FunctionWhy::Count => b"count",
+    }
+}
+
+// Writes why code is not functions.
+fn say_functions<E: Sink>(err: &mut E, name: &Text, at: usize, why: FunctionWhy)
+    ensures { IsSaid E.written E.faults err.old err.new
+        (line_about name.now (codes "functions: " ++ (function_why_text why ++ (codes " at " ++ decimal at)))) }
+{
+    let mut number = Buffer::new();
+    let at = number.format(at).as_bytes();
+    say_about(
+        err,
+        name,
+        &[b"functions: ", function_why_text(why), b" at ", at],
+    )
+}
+
 // What is wrong with a line, in a word.
 fn why_text(why: ListingWhy) -> &'static [u8]
     ensures { result.now ≡ why_text why }
@@ -250,6 +282,7 @@ fn say_refusal<E: Sink>(err: &mut E, name: &Text, refusal: Refusal)
         Refusal::Side(id, refusal) => say_side(err, name, IdText::new(id).as_bytes(), refusal),
         Refusal::Term(id, refusal) => say_term(err, name, IdText::new(id).as_bytes(), refusal),
         Refusal::Code(refusal) => say_code(err, name, refusal),
+        Refusal::Functions(at, why) => say_functions(err, name, at, why),
         Refusal::Listing(refusal) => say_listing(err, name, refusal),
         Refusal::NoMemory => say_about(err, name, &[b"out of memory"]),
     }
