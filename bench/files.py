@@ -40,12 +40,20 @@ def members(*of):
     return bytes([LIST]) + number(U, len(of)) + b"".join(of)
 
 
-def block(n):
-    label, atom = n % 60_000 + 1, n % 300 + 1
+def head(n, label):
+    """A label, a line and the head of a function."""
+    atom = n % 300 + 1
     return b"".join((
         b"\x01" + number(U, label),                                            # label
         b"\x99" + number(U, n % 2000),                                         # line
         b"\x02" + number(A, atom) + number(A, atom + 1) + number(U, 2),        # func_info
+    ))
+
+
+def body(n, label):
+    """Mixed instructions that name this label."""
+    atom = n % 300 + 1
+    return b"".join((
         b"\x40" + number(X, 3) + number(Y, 1),                                 # move
         b"\x40" + number(I, -n * 77_777) + number(X, 1),
         b"\x40" + bytes([LITERAL]) + number(U, n % 500) + number(X, 0),
@@ -61,6 +69,17 @@ def block(n):
     ))
 
 
+def block(n):
+    label = n % 60_000 + 1
+    return head(n, label) + body(n, label)
+
+
+def function(n):
+    """A function of mixed instructions, whose labels are those behind the ones of the function before."""
+    label = 2 * n + 1
+    return head(n, label) + b"\x01" + number(U, label + 1) + body(n, label + 1)
+
+
 def names(atoms, imports):
     """The chunks of an atom table and an import table with so many entries."""
     texts = [b"atom_%d" % n for n in range(1, atoms + 1)]
@@ -71,16 +90,27 @@ def names(atoms, imports):
     ]
 
 
-def code(instructions, functions):
+def code(instructions, functions, labels=60_001):
     """The payload of a chunk of code."""
-    return struct.pack(">5I", 16, 0, 182, 60_001, functions) + instructions + b"\x03"
+    return struct.pack(">5I", 16, 0, 182, labels, functions) + instructions + b"\x03"
+
+
+def up_to(size, part):
+    """Parts, numbered from 0, until there are so many bytes of them."""
+    parts, total = [], 0
+    while total < size:
+        parts.append(part(len(parts)))
+        total += len(parts[-1])
+    return parts
 
 
 def mixed_code(size):
     """The payload of a chunk of code with so many bytes of mixed instructions."""
-    blocks, total, n = [], 0, 0
-    while total < size:
-        blocks.append(block(n))
-        total += len(blocks[-1])
-        n += 1
-    return code(b"".join(blocks), n)
+    blocks = up_to(size, block)
+    return code(b"".join(blocks), len(blocks))
+
+
+def functions(size):
+    """The payload of a chunk of code with so many bytes of functions."""
+    all = up_to(size, function)
+    return code(b"".join(all), len(all), 2 * len(all) + 1)
