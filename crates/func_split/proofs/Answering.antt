@@ -1,5 +1,5 @@
 -- What split code and refusals are, by what the pass found.
-use Rattle.std.proofs.Common.{◌≡◌, ◌≢◌, ◌⊎◌, ◌↔◌, ℕ, Bool, true, false, suc, ◌==◌, if◌then◌else◌, List, [], ◌∷◌, length, Option, Some, None, Result, Ok, Err, refl, sym, ap, ◌∙◌, subst, inl, inr, eq-eqb, ne_eqb}
+use Rattle.std.proofs.Common.{◌≡◌, ◌≢◌, ◌⊎◌, ◌↔◌, ℕ, Bool, true, false, ◌==◌, if◌then◌else◌, List, [], ◌∷◌, length, Option, Some, None, Result, Ok, Err, refl, sym, ap, ◌∙◌, subst, inl, inr, eq-eqb, ne_eqb}
 use Rattle.std.specs.BTreeMap.{BTreeMap}
 use Rattle.std.proofs.lemmas.Bool.{false≢true}
 use Rattle.op_table.specs.Instruction.{Instruction}
@@ -14,6 +14,7 @@ use Rattle.func_split.specs.Functions.{IsSplit, IsSplitCode, Piece, SplitValue}
 use Rattle.func_split.specs.Fronts.{ArePieces, TellsFirst}
 use Rattle.func_split.specs.Reading.{counted, first_fault, or_split, pieces_of, split_of, split_value}
 use Rattle.func_split.specs.Refused.{IsRefused, IsTold}
+use Rattle.func_split.proofs.Standing.{length-pieces_of}
 
 -- ---- the reading
 
@@ -39,10 +40,6 @@ unfolding split_of
 reads_sound labels count [] some e = absurd (some refl)
 reads_sound labels count (i ∷ code) some e = ap (λ (o : Option (ℕ × FunctionWhy)). or_split o (counted count (split_value labels (i ∷ code)))) e
 
-length_pieces : (code : List Instruction) (found : List Extent) → length (pieces_of code found) ≡ length found
-length_pieces code [] = refl
-length_pieces code (extent ∷ later) = ap suc (length_pieces code later)
-
 reads_found : (labels count : ℕ) (code : List Instruction) (found : List Extent) (places : BTreeMap ℕ ℕ) → code ≢ [] → ArePieces labels (marks_of code) found places → split_of labels count code ≡ counted count (record { instrs = code; labels = labels; functions = pieces_of code found })
 reads_found labels count code found places some is =
     reads_sound labels count code some is.sound
@@ -62,14 +59,14 @@ found_in labels code given found places empty tells not_empty same pieces = reco
 pub reads_split : (labels count : ℕ) (code : List Instruction) (found : List Extent) (places : BTreeMap ℕ ℕ) → Found labels code found places → length found ≡ count → split_of labels count code ≡ Ok (record { instrs = code; labels = labels; functions = pieces_of code found })
 reads_split labels count code found places is e =
     let s : SplitValue = record { instrs = code; labels = labels; functions = pieces_of code found } in
-    let test : (length s.functions == count) ≡ true = eq-eqb (length s.functions) count (length_pieces code found ∙ e) in
+    let test : (length s.functions == count) ≡ true = eq-eqb (length s.functions) count (length-pieces_of code found ∙ e) in
     reads_found labels count code found places is.some is.pieces
     ∙ ap (λ (b : Bool). if b then split_as s else refused_as (refusals.Functions 0 whys.Count)) test
 
 pub reads_miscounted : (labels count : ℕ) (code : List Instruction) (found : List Extent) (places : BTreeMap ℕ ℕ) → Found labels code found places → length found ≢ count → split_of labels count code ≡ Err (refusals.Functions 0 whys.Count)
 reads_miscounted labels count code found places is differs =
     let s : SplitValue = record { instrs = code; labels = labels; functions = pieces_of code found } in
-    let test : (length s.functions == count) ≡ false = ne_eqb (length s.functions) count (λ e. differs (sym (length_pieces code found) ∙ e)) in
+    let test : (length s.functions == count) ≡ false = ne_eqb (length s.functions) count (λ e. differs (sym (length-pieces_of code found) ∙ e)) in
     reads_found labels count code found places is.some is.pieces
     ∙ ap (λ (b : Bool). if b then split_as s else refused_as (refusals.Functions 0 whys.Count)) test
 

@@ -3,7 +3,7 @@ use Rattle.std.proofs.Common.{◌≡◌, ◌↔◌, ℕ, zero, suc, ◌+◌, ◌
 use Rattle.std.specs.BTreeMap.{BTreeMap, get}
 use Rattle.std.specs.Ordering.{nat_cmp}
 use Rattle.std.specs.Option.{option_map}
-use Rattle.std.proofs.lemmas.Bool.{eqb-true, eq-eqb}
+use Rattle.std.proofs.lemmas.Bool.{eq-eqb}
 use Rattle.std.proofs.lemmas.Option.{none-some, same_Some}
 use Rattle.op_table.specs.Instruction.{Instruction}
 use Rattle.func_split.specs.declared.mark.Mark.{Mark}
@@ -12,15 +12,8 @@ use Rattle.func_split.specs.Marks.{marks_of, IsLabelAt}
 use Rattle.func_split.specs.Functions.{Piece, IsSplit}
 use Rattle.func_split.specs.Faults.{is_label}
 use Rattle.func_split.specs.Reading.{place_in}
+use Rattle.func_split.proofs.LabelPlaces.{label_is}
 use Rattle.func_split.proofs.Standing.{Stands, inside}
-
-is_label-true : (number : ℕ) (m : Mark) → is_label number m ≡ true → m ≡ marks.Label (Some number)
-is_label-true number (marks.Label (Some other)) e = ap (λ (n : ℕ). marks.Label (Some n)) (sym (eqb-true number other e))
-is_label-true number (marks.Label None) e = grind arith
-is_label-true number marks.Line e = grind arith
-is_label-true number (marks.Func head) e = grind arith
-is_label-true number marks.Close e = grind arith
-is_label-true number marks.Other e = grind arith
 
 is_label-own : (number : ℕ) (m : Mark) → m ≡ marks.Label (Some number) → is_label number m ≡ true
 is_label-own number m e = ap (is_label number) e ∙ eq-eqb number number refl
@@ -36,7 +29,7 @@ place_is [] number place e = absurd (none-some place e)
 place_is (m ∷ ms) number place e = go (λ later is. place_is ms number later is) (or_behind (is_label number m) (place_in ms number) place e)
   where
     go : ((later : ℕ) → place_in ms number ≡ Some later → IsLabelAt ms later number) → ((is_label number m ≡ true) × (0 ≡ place)) ⊎ ((later : ℕ) × (place_in ms number ≡ Some later) × (suc later ≡ place)) → IsLabelAt (m ∷ ms) place number
-    go again (inl here) = subst (λ (n : ℕ). IsLabelAt (m ∷ ms) n number) here.1 (ap (λ (x : Mark). Some x) (is_label-true number m here.0))
+    go again (inl here) = subst (λ (n : ℕ). IsLabelAt (m ∷ ms) n number) here.1 (ap (λ (x : Mark). Some x) (label_is number m here.0))
     go again (inr behind) = subst (λ (n : ℕ). IsLabelAt (m ∷ ms) n number) behind.2 (again behind.0 behind.1)
 
 -- a label that stands somewhere has a place

@@ -15,7 +15,7 @@ onto_at (m ∷ back) rest k = let at : length (m ∷ back) + k ≡ length back +
 pub onto_here : (back : List Mark) (m : Mark) (rest : List Mark) → slice_get (onto back (m ∷ rest)) (length back) ≡ Some m
 onto_here back m rest = let at : length back ≡ length back + 0 = omega arith in ap (slice_get (onto back (m ∷ rest))) at ∙ onto_at back (m ∷ rest) 0
 
-label_is : (number : ℕ) (m : Mark) → is_label number m ≡ true → m ≡ marks.Label (Some number)
+pub label_is : (number : ℕ) (m : Mark) → is_label number m ≡ true → m ≡ marks.Label (Some number)
 label_is number (marks.Label (Some other)) e = ap (λ (n : ℕ). marks.Label (Some n)) (sym (eqb-true number other e))
 label_is number (marks.Label None) e = absurd cc
 label_is number marks.Line e = absurd cc

@@ -10,6 +10,7 @@ use Rattle.func_split.specs.Marks.{mark_of, marks_of}
 use Rattle.func_split.specs.Functions.{AreFrom, IsFunction, Piece, size_limit}
 use Rattle.func_split.specs.Reading.{end_before, piece_of, pieces_of}
 use Rattle.func_split.proofs.Following.{Follows, Front, behind_label}
+use Rattle.func_split.proofs.Standing.{size_is}
 
 -- the marks of a function
 abbrev front_marks : ℕ → ℕ → ℕ → ℕ → ℕ → List Mark → List Mark
@@ -109,15 +110,12 @@ module _ (code : List Instruction) where
 abbrev pub extent_in : Piece → Extent
 extent_in f = record { first = f.first; info = f.first + (f.entry - 1); name = f.name; arity = f.arity }
 
-function_long : (f : Piece) (is : IsFunction f) → length f.instrs ≡ is.lines + (3 + length is.body)
-function_long f is = sym (length-map f.instrs mark_of) ∙ ap length is.marks ∙ front_length is.label is.lines f.name f.arity is.entry_label is.body
-
 pub functions_follow : (functions : List Piece) (place : ℕ) (is : List Instruction) → AreFrom place functions is → AllByRecursion IsFunction functions → Follows place (map extent_in functions) (marks_of is)
 functions_follow [] place is are each = are
 functions_follow (f ∷ functions) place is are each =
     let fn : IsFunction f = each.0 in
     let rest = are.1.0 in
-    let long : length f.instrs ≡ fn.lines + (3 + length fn.body) = function_long f fn in
+    let long : length f.instrs ≡ fn.lines + (3 + length fn.body) = omega (arith, size_is f fn) in
     let entry : f.entry ≡ 2 + fn.lines = fn.entry in
     let short : length f.instrs ≤ size_limit = fn.size in
     let first : f.first ≡ place = are.0 in

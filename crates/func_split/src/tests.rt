@@ -114,11 +114,6 @@ const REFUSED: [(&[Row], usize, FunctionWhy); 29] = [
     (&[Label(0), Return, End], 0, FunctionWhy::Start),
     // the label is the entry label of the function before
     (
-        &[Label(1), Func(2, 0), Label(2), Func(3, 0), Label(3), End],
-        3,
-        FunctionWhy::NoLabel,
-    ),
-    (
         &[
             Label(1),
             Func(2, 0),
@@ -126,11 +121,24 @@ const REFUSED: [(&[Row], usize, FunctionWhy); 29] = [
             Line,
             Func(3, 0),
             Label(3),
+            End,
+        ],
+        4,
+        FunctionWhy::NoLabel,
+    ),
+    // good, bad, good
+    (
+        &[
+            Label(1),
+            Func(2, 0),
+            Label(2),
+            Func(3, 0),
+            Label(3),
             Func(4, 0),
             Label(4),
             End,
         ],
-        4,
+        3,
         FunctionWhy::NoLabel,
     ),
     // NoLabel and NoEntry
@@ -345,38 +353,72 @@ fn labels_have_places_in_their_function(rt: HostRuntime) -> Result<(), Fail> {
     Ok(())
 }
 
-// A small function, and one of so many instructions.
-fn split_long(rt: &impl AllocGlobal, size: u32) -> Result<Result<SplitCode, SplitRefusal>, Fail> {
+// These instructions, so many `return`, and an end.
+fn split_long(
+    rt: &impl AllocGlobal,
+    front: &[Row],
+    returns: u32,
+    end: &[Row],
+) -> Result<Result<SplitCode, SplitRefusal>, Fail> {
     let mut instrs = InstrList::new(rt.alloc());
-    put_rows(
-        rt,
-        &mut instrs,
-        &[
-            Label(1),
-            Func(2, 0),
-            Label(2),
-            Label(3),
-            Line,
-            Func(3, 0),
-            Label(4),
-        ],
-    )?;
-    for _ in 4..size {
+    put_rows(rt, &mut instrs, front)?;
+    for _ in 0..returns {
         instrs.push(instr_of(rt, Return)?)?;
     }
-    put_rows(rt, &mut instrs, &[End])?;
+    put_rows(rt, &mut instrs, end)?;
     Ok(split(rt.alloc(), code_of(rt, 5, 2, instrs)))
 }
 
+// A function of three instructions, and the first four of another.
+const FRONT: &[Row] = &[
+    Label(1),
+    Func(2, 0),
+    Label(2),
+    Label(3),
+    Line,
+    Func(3, 0),
+    Label(4),
+];
+
+// Instructions before and behind so many `return`, and what is told.
+const LONG: [(&[Row], u32, &[Row], usize, FunctionWhy); 6] = [
+    (FRONT, 199_997, &[End], 3, FunctionWhy::Long),
+    // the last instruction is counted, since it is no int_code_end
+    (FRONT, 199_997, &[], 3, FunctionWhy::Long),
+    (FRONT, 199_996, &[], 200_002, FunctionWhy::End),
+    // a func_info that has no label of its own begins no function
+    (
+        &[Label(1), Func(2, 0), Label(2), Func(3, 0), Label(3)],
+        199_996,
+        &[End],
+        0,
+        FunctionWhy::Long,
+    ),
+    (
+        &[Label(1), Func(2, 0), Label(2), Func(3, 0), Label(3)],
+        199_995,
+        &[End],
+        3,
+        FunctionWhy::NoLabel,
+    ),
+    // LabelRange and Long
+    (
+        &[Label(0), Func(2, 0), Label(2)],
+        199_998,
+        &[End],
+        0,
+        FunctionWhy::LabelRange,
+    ),
+];
+
 #[test]
 fn functions_have_200_000_instructions_at_most(rt: HostRuntime) -> Result<(), Fail> {
-    let code = split_long(&rt, 200_000)??;
+    let code = split_long(&rt, FRONT, 199_996, &[End])??;
     let function = code.function(1).ok_or("no function")?;
     assert_eq!(rt; (function.first(), function.instrs().len()), (3, 200_000));
-    let long = SplitRefusal::Functions {
-        at: 3,
-        why: FunctionWhy::Long,
-    };
-    assert_eq!(rt; split_long(&rt, 200_001)?.err(), Some(long));
+    for (front, returns, end, at, why) in LONG {
+        let refusal = split_long(&rt, front, returns, end)?.err();
+        assert_eq!(rt; refusal, Some(SplitRefusal::Functions { at, why }));
+    }
     Ok(())
 }
