@@ -188,8 +188,9 @@ fn form_of(rt: &impl AllocGlobal, chunks: &[&[u8]]) -> Result<Bytes, Fail> {
     for chunk in chunks {
         body.extend(chunk)?;
     }
+    let size = u32::try_from(body.len()).unwrap_or(0);
     let mut file = Bytes::new(rt.alloc());
-    put_head(&mut file, body.len().saturating_add(4) as u32)?;
+    put_head(&mut file, size.saturating_add(4))?;
     file.extend(body.as_slice())?;
     Ok(file)
 }
@@ -267,32 +268,47 @@ fn modules_are_refused_in_order(rt: HostRuntime) -> Result<(), Fail> {
     Ok(())
 }
 
+// Whether a function is the one of the module below.
+fn is_its_function(function: &Function<'_>) -> bool {
+    function.first() == 0
+        && function.entry() == 2
+        && function.arity() == 1
+        && function.name() == 2
+        && function.instrs().len() == 4
+        && function.place_of(2) == Some(2)
+        && function.place_of(3).is_none()
+}
+
+fn has_its_function(module: &Module<'_>) -> bool {
+    match module.function(0) {
+        Some(function) => is_its_function(&function),
+        None => false,
+    }
+}
+
+fn has_its_tables(module: &Module<'_>) -> bool {
+    module.form().chunks().len() == 5
+        && module.atoms().len() == 2
+        && module.imports().len() == 1
+        && module.funs().len() == 1
+}
+
 #[test]
 fn modules_are_opened(rt: HostRuntime) -> Result<(), Fail> {
     let file = form_of(&rt, &[PACKED, FUNS, IMPORTS, CODE, ATOMS])?;
     let module = open_module(rt.alloc(), file.as_slice())?;
-    assert_eq!(rt; module.form().chunks().len(), 5);
-    assert_eq!(rt; module.functions(), 1);
-    let mut seen = None;
-    if let Some(function) = module.function(0) {
-        assert_eq!(rt; (function.first(), function.entry()), (0, 2));
-        assert_eq!(rt; (function.arity(), function.name()), (1, 2));
-        assert_eq!(rt;
-            (function.place_of(2), function.place_of(3)),
-            (Some(2), None)
-        );
-        seen = Some(function.instrs().len());
-    }
-    assert_eq!(rt; seen, Some(4));
-    assert!(rt; module.function(1).is_none());
-    assert_eq!(rt; (module.entry_of(2), module.entry_of(1)), (Some(1), None));
-    assert_eq!(rt; module.atoms().len(), 2);
-    assert_eq!(rt; module.imports().get(0).map(|import| import.arity), Some(3));
-    assert_eq!(rt; module.funs().get(0).map(|fun| fun.label), Some(2));
-    assert_eq!(rt; module.literals(), None);
+    assert!(rt; has_its_tables(&module) && has_its_function(&module));
+    assert!(rt; module.functions() == 1 && module.function(1).is_none());
+    assert!(rt; module.entry_of(2) == Some(1) && module.entry_of(1).is_none());
+    Ok(())
+}
+
+#[test]
+fn literals_of_a_module_are_counted(rt: HostRuntime) -> Result<(), Fail> {
     for (chunks, count) in [
         ([CODE, ATOMS].as_slice(), Some(0)),
         ([TWO_LITERALS, CODE, ATOMS].as_slice(), Some(2)),
+        ([PACKED, CODE, ATOMS].as_slice(), None),
     ] {
         let file = form_of(&rt, chunks)?;
         let module = open_module(rt.alloc(), file.as_slice())?;
