@@ -5,10 +5,14 @@ use Rattle.std.specs.List.{find, list_all, position_or_len, AllByRecursion}
 use Rattle.std.specs.Option.{IfSome, IsNone, option_copied, option_map}
 use Rattle.std.specs.Str.{bytes_eq}
 use Rattle.std.proofs.lemmas.Bool.{and_parts, cases_Bool, eqb-true, ltb-true, false_from_ne_true}
+use Rattle.std.proofs.lemmas.List.{nil_from_length}
 use Rattle.std.proofs.lemmas.List.Folds.{find_at}
 use Rattle.std.proofs.lemmas.Slice.Eq.{bytes_eq-Decides}
 use Rattle.std.specs.Borrow.{Bor}
 use Rattle.op_table.specs.declared.row.OpRow.{OpRow}
+use Rattle.op_table.specs.declared.role.Role.{Role}
+use Rattle.op_table.specs.declared.row.Profile.{Profile}
+use Rattle.op_table.specs.declared.row.Profile.TheVariants.{Typed, Later, Out}
 use Rattle.op_table.specs.Table.{Row, arity_of, table, is_name_byte, row_of, row_with, row_named}
 use Rattle.op_table.proofs.Numbered.{row_with-own}
 
@@ -30,6 +34,10 @@ found_all test other (y ∷ ys) x all found =
       | inl is ↦ let same : Some y ≡ Some x = rw is at found in let passes = parts.0 in cc
       | inr not ↦ let later : find test ys ≡ Some x = rw not at found in found_all test other ys x parts.1 later
     ]
+
+-- what all rows of the table pass
+pub row_all : (test : Row → Bool) → list_all test table ≡ true → (op : ℕ) (r : Row) → row_with op ≡ Some r → test r ≡ true
+row_all test all op r found = found_all (λ q. eqb q.op op) test table r all found
 
 -- a row with the number of another
 has_number : ℕ → Option Row → Bool
@@ -123,3 +131,35 @@ name_word op r found =
     let word = found_all (λ q. eqb q.op op) (λ q. is_word q.name) table r are_words found in
     let parts = and_parts (ltb 0 (length r.name)) (list_all is_name_byte r.name) word in
     (ltb-true 0 (length r.name) parts.0, parts.1)
+
+-- ---- roles
+
+-- a role for each operand, or none
+has_roles : Profile → List Role → ℕ → Bool
+has_roles Typed roles arity = eqb (length roles) arity
+has_roles _ roles arity = eqb (length roles) 0
+
+have_roles : list_all (λ r. has_roles r.profile r.roles r.arity) table ≡ true
+unfolding has_roles table
+have_roles = refl
+
+role_each : (profile : Profile) (roles : List Role) (arity : ℕ) → has_roles profile roles arity ≡ true → profile ≡ Typed → length roles ≡ arity
+unfolding has_roles
+role_each Typed roles arity has typed = eqb-true (length roles) arity has
+role_each Later roles arity has typed = absurd cc
+role_each Out roles arity has typed = absurd cc
+
+role_none : (profile : Profile) (roles : List Role) (arity : ℕ) → has_roles profile roles arity ≡ true → (profile ≡ Typed → ⊥) → roles ≡ []
+unfolding has_roles
+role_none Typed roles arity has other = absurd (other refl)
+role_none Later roles arity has other = nil_from_length roles (eqb-true (length roles) 0 has)
+role_none Out roles arity has other = nil_from_length roles (eqb-true (length roles) 0 has)
+
+row_roles : (op : ℕ) (r : Row) → row_with op ≡ Some r → has_roles r.profile r.roles r.arity ≡ true
+row_roles op r found = found_all (λ q. eqb q.op op) (λ q. has_roles q.profile q.roles q.arity) table r have_roles found
+
+pub typed_roles : (op : ℕ) (r : Row) → row_with op ≡ Some r → r.profile ≡ Typed → length r.roles ≡ r.arity
+typed_roles op r found = role_each r.profile r.roles r.arity (row_roles op r found)
+
+pub other_roles : (op : ℕ) (r : Row) → row_with op ≡ Some r → (r.profile ≡ Typed → ⊥) → r.roles ≡ []
+other_roles op r found = role_none r.profile r.roles r.arity (row_roles op r found)

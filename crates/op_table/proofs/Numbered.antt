@@ -7,7 +7,7 @@ use Rattle.std.specs.Slice.{IsItemAt}
 use Rattle.std.proofs.lemmas.Option.{slice_get-map, slice_get_past, slice_get_read}
 use Rattle.std.proofs.lemmas.Bool.{and_parts, cases_lt, ltb-true, eqb-true, eq-eqb, ne_eqb}
 use Rattle.op_table.specs.declared.row.OpRow.{OpRow}
-use Rattle.op_table.specs.Table.{Row, table, row_with, row_of, arity_of}
+use Rattle.op_table.specs.Table.{Row, table, row_with, row_of, arity_of, roles_in, roles_of}
 
 -- the numbers count up from k
 numbered : ℕ → List Row → Bool
@@ -70,6 +70,10 @@ copied_at rows i (Some x) item = sym (slice_get_read rows (length rows) i x.now 
 pub arity_in : (op : ℕ) (r : Option (Bor OpRow)) → option_map row_of (option_copied r) ≡ row_with op → IfSome r (λ x. arity_of op ≡ Some x.now.arity)
 arity_in op None row = tt
 arity_in op (Some x) row = ap (option_map (λ (q : Row). q.arity)) (sym row)
+
+pub roles_are : (op : ℕ) (r : Option (Bor OpRow)) → option_map row_of (option_copied r) ≡ row_with op → IfSome r (λ x. roles_of op ≡ x.now.roles.now)
+roles_are op None row = tt
+roles_are op (Some x) row = ap roles_in (sym row)
 
 -- an opcode is a byte
 pub opcode_below : (op n : ℕ) → arity_of op ≡ Some n → op < 256

@@ -1,7 +1,8 @@
 //! Laws over the table of opcodes.
 
-ghost use Rattle.std.specs.Prelude.{◌≡◌, ◌<◌, ℕ, List, Some, length, true};
+ghost use Rattle.std.specs.Prelude.{◌≡◌, ◌<◌, ℕ, List, [], Some, length, true};
 ghost use Rattle.std.specs.List.{list_all};
+ghost use Rattle.op_table.specs.declared.row.Profile.TheVariants.{Typed};
 ghost use Rattle.op_table.specs.Table.{Row, is_name_byte, row_with, row_named};
 
 /// The row with a number is also found by its name.
@@ -20,4 +21,10 @@ pub fn rows_have_their_numbers()
 /// Each name is of lower-case letters, digits and `_`, and not empty.
 pub fn names_are_words()
     ensures { (op : ℕ) (r : Row) → row_with op ≡ Some r → (0 < length r.name) × (list_all is_name_byte r.name ≡ true) }
+{}
+
+/// The row of an opcode that is validated has a role for each operand, and another row has none.
+pub fn rows_have_their_roles()
+    ensures typed { (op : ℕ) (r : Row) → row_with op ≡ Some r → r.profile ≡ Typed → length r.roles ≡ r.arity }
+    ensures other { (op : ℕ) (r : Row) → row_with op ≡ Some r → (r.profile ≡ Typed → ⊥) → r.roles ≡ [] }
 {}

@@ -2,8 +2,10 @@
 
 ghost use Rattle.std.specs.Prelude.{◌≡◌, ◌⊎◌, ◌<◌, ◌↔◌, IsNone, Some, IfSome, option_copied, option_map, map, length};
 ghost use Rattle.std.specs.List.{AllByRecursion};
-ghost use Rattle.op_table.specs.Table.{table, row_with, row_named, row_of, arity_of};
+ghost use Rattle.op_table.specs.Table.{table, row_with, row_named, row_of, arity_of, roles_of};
 
+use crate::form::Form;
+use crate::role::Role;
 use crate::rows::ROWS;
 
 /// What is done with an opcode beyond listing it.
@@ -17,7 +19,7 @@ pub enum Profile {
     Out,
 }
 
-/// An opcode with its name and the number of its operands.
+/// An opcode with its name and its operands.
 #[derive(Clone, Copy, Debug)]
 pub struct OpRow {
     /// The opcode.
@@ -26,8 +28,11 @@ pub struct OpRow {
     pub name: &'static str,
     /// How many operands an instruction of it has.
     pub arity: u8,
+    /// What its operands are for, in order. There are none where the opcode is not validated.
+    pub roles: &'static [Role],
     /// What is done with it.
     pub profile: Profile,
+    pub(crate) form: Form,
 }
 
 // The rows of the table, in the order of their numbers.
@@ -43,6 +48,7 @@ fn rows() -> &'static [OpRow]
 pub fn op_row(op: u8) -> Option<&'static OpRow>
     ensures row { option_map row_of (option_copied result) ≡ row_with op }
     ensures arity { IfSome result (λ r. arity_of op ≡ Some r.now.arity) }
+    ensures roles { IfSome result (λ r. roles_of op ≡ r.now.roles.now) }
     ensures none { IsNone result ↔ ((op < 1) ⊎ (182 < op)) }
 {
     let index = usize::from(op).checked_sub(1)?;

@@ -1,7 +1,7 @@
 use Rattle.std.proofs.Common.{◌≡◌, ◌<◌, ◌+◌, arith}
 use Rattle.std.specs.Option.{option_map, option_copied}
 use Rattle.op_table.specs.Table.{row_of, row_with}
-use Rattle.op_table.proofs.Numbered.{row_with-place, row_with-none, copied_at, arity_in}
+use Rattle.op_table.proofs.Numbered.{row_with-place, row_with-none, copied_at, arity_in, roles_are}
 use Rattle.op_table.proofs.row.op_row.Goals as goal
 
 pub returns-in_err-index-clause-row : goal.returns-in_err-index-clause-row
@@ -23,3 +23,6 @@ returns-clause-row c = row c
 
 pub returns-clause-arity : goal.returns-clause-arity
 returns-clause-arity c = arity_in c.args.op c.get.result (row c)
+
+pub returns-clause-roles : goal.returns-clause-roles
+returns-clause-roles c = roles_are c.args.op c.get.result (row c)
