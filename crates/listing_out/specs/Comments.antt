@@ -1,6 +1,6 @@
 -- Comments: what the atoms and imports in an instruction's operands are called, behind its line.
-use Rattle.std.specs.Prelude.{ℕ, ◌+◌, ◌-◌, ◌==◌, Bool, true, false, nat_lt, nat_eq, if◌then◌else◌, List, [], ◌∷◌, ◌++◌, length, take, map, codes, slice_get, Option, Some, None, Result, Ok, Err, bytes_eq}
-use Rattle.std.specs.List.{flat_map, list_any}
+use Rattle.std.specs.Prelude.{ℕ, ◌+◌, ◌-◌, ◌==◌, Bool, true, false, nat_lt, if◌then◌else◌, List, [], ◌∷◌, ◌++◌, length, take, map, codes, slice_get, Option, Some, None, Result, Ok, Err, bytes_eq}
+use Rattle.std.specs.List.{flat_map}
 use Rattle.ext_term.specs.Name.{name_text}
 use Rattle.compact_term.specs.declared.operand.Plain.{Plain}
 use Rattle.compact_term.specs.declared.operand.Plain.TheVariants as plains
@@ -12,6 +12,9 @@ use Rattle.index_tables.specs.Reading.{all_atoms, all_entries}
 use Rattle.index_tables.specs.Shape.{import_shape}
 use Rattle.index_tables.specs.Text.{import_text}
 use Rattle.op_table.specs.Instruction.{Instruction}
+use Rattle.op_table.specs.Table.{roles_of}
+use Rattle.op_table.specs.declared.role.Role.{Role}
+use Rattle.op_table.specs.declared.role.Role.TheVariants.{M}
 use Rattle.beam_module.specs.File.{FileChunk}
 use Rattle.beam_module.specs.declared.chunk_value.ChunkVal.TheVariants.{Code, Raw}
 use Rattle.listing_out.specs.declared.names.Names.{Names}
@@ -73,12 +76,13 @@ operand_items names is_import (operands.One plain) = item_of (called names is_im
 operand_items names is_import (operands.List members) = flat_map (λ plain. item_of (called names false plain)) members
 operand_items names is_import (operands.Alloc pairs) = []
 
--- the place of the operand that is the number of an import, counted from 0: in calls of other modules, and in guards and built-in functions
+abbrev pub is_import : Option Role → Bool
+is_import (Some M) = true
+is_import _ = false
+
+-- whether the operand at this place, counted from 0, is the number of an import by its role
 abbrev pub is_import_place : ℕ → ℕ → Bool
-is_import_place op place =
-    if list_any (nat_eq op) (7 ∷ 8 ∷ 10 ∷ 11 ∷ 78 ∷ []) then place == 1
-    else if list_any (nat_eq op) (124 ∷ 125 ∷ 152 ∷ []) then place == 2
-    else (if op == 9 then place == 0 else false)
+is_import_place op place = is_import (slice_get (roles_of op) place)
 
 abbrev pub items_from : Names → ℕ → ℕ → List Operand → List (List ℕ)
 items_from names op place [] = []

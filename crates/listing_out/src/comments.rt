@@ -7,17 +7,15 @@ ghost use Rattle.listing_out.specs.Comments.{any_behind, called, instruction_ite
 use crate::names::Names;
 use bk_base::{Bytes, NoMemory};
 use compact_term::{Operand, Plain};
-use op_table::Instr;
+use op_table::{Instr, Role, op_row};
 
 // Whether the operand at this place, counted from 0, is the number of an import.
 fn is_import_place(op: u8, place: usize) -> bool
     ensures { result ≡ is_import_place op place }
 {
-    match op {
-        7 | 8 | 10 | 11 | 78 => place == 1,
-        124 | 125 | 152 => place == 2,
-        9 => place == 0,
-        _ => false,
+    match op_row(op) {
+        Some(row) => matches!(row.roles.get(place), Some(Role::M)),
+        None => false,
     }
 }
 
