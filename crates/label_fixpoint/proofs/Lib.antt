@@ -1,0 +1,4 @@
+mod Listed
+mod Carried
+mod Counted
+mod Walks
