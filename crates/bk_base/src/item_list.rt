@@ -1,6 +1,6 @@
 //! Lists of items.
 
-ghost use Rattle.std.specs.Prelude.{◌≡◌, ◌↔◌, [], ◌∷◌, ◌++◌, ◌<◌, length, slice_get, slice_set, IsTrue, OnOk, OnErr, option_copied};
+ghost use Rattle.std.specs.Prelude.{◌≡◌, ◌↔◌, [], ◌∷◌, ◌++◌, ◌<◌, length, take, drop, slice_get, slice_set, IsTrue, OnOk, OnErr, IfNone, option_copied, option_to_list};
 
 use crate::memory::NoMemory;
 use std::alloc::Global;
@@ -58,6 +58,33 @@ impl<T> ItemList<T> {
         ensures { self.new ≡ slice_set self.old i item }
     {
         self.items[i] = item;
+    }
+
+    /// Takes the last item off. None exactly where there is none.
+    pub fn pop(&mut self) -> Option<T>
+        ensures taken { self.old ≡ self.new ++ option_to_list result }
+        ensures none { IfNone result (self.new ≡ []) }
+    {
+        self.items.pop()
+    }
+
+    /// Keeps the first `n` items, or all where there are not so many.
+    pub fn truncate(&mut self, n: usize)
+    where
+        T: Drop,
+        ensures { self.new ≡ take n self.old }
+    {
+        self.items.truncate(n);
+    }
+
+    /// Drops the first `n` items, or all where there are not so many, without taking memory.
+    pub fn drop_front(&mut self, n: usize)
+    where
+        T: Drop,
+        ensures { self.new ≡ drop n self.old }
+    {
+        let end = n.min(self.items.len());
+        drop(self.items.drain(..end));
     }
 
     /// The items.

@@ -1,4 +1,5 @@
-//! What every crate of beamkit stands on: buffers, texts, lists, and a cursor over bytes.
+//! What every crate of beamkit stands on: buffers, texts, lists, a cursor over bytes, and counts of
+//! steps.
 #![tactic(auto)]
 
 mod byte_list;
@@ -6,6 +7,7 @@ mod bytes;
 mod cursor;
 mod item_list;
 mod memory;
+mod steps;
 mod tag_kind;
 mod text;
 mod word_list;
@@ -15,6 +17,7 @@ pub use bytes::Bytes;
 pub use cursor::Cursor;
 pub use item_list::ItemList;
 pub use memory::NoMemory;
+pub use steps::Steps;
 pub use tag_kind::TagKind;
 pub use text::{Text, TextFault};
 pub use word_list::WordList;

@@ -1,3 +1,5 @@
+ghost use Rattle.std.specs.Prelude.{◌≡◌, ◌+◌};
+
 use super::*;
 use std::test::Fail;
 
@@ -59,5 +61,48 @@ fn a_cursor_reads_from_the_front(rt: HostRuntime) -> Result<(), Fail> {
     assert_eq!(rt; cursor.rest(), [9].as_slice());
     assert_eq!(rt; cursor.take(1).ok_or("no byte")?, [9].as_slice());
     assert!(rt; cursor.is_empty());
+    Ok(())
+}
+
+// What is put, how many of it are dropped in front, how many of the rest are kept, what is left once
+// the last of these is taken off, and that one.
+const ROWS: [(&[u8], usize, usize, &[u8], Option<u8>); 5] = [
+    (&[1, 2, 3, 4], 1, 2, &[2], Some(3)),
+    (&[1, 2, 3, 4], 0, 9, &[1, 2, 3], Some(4)),
+    (&[1, 2, 3, 4], 3, 1, &[], Some(4)),
+    (&[1, 2], 9, 1, &[], None),
+    (&[1, 2], 1, 0, &[], None),
+];
+
+#[test]
+fn items_are_taken_off_at_both_ends(rt: HostRuntime) -> Result<(), Fail> {
+    for (put, dropped, kept, left, last) in ROWS.iter() {
+        let mut items = ItemList::new(rt.alloc());
+        for item in put.iter() {
+            items.push(*item)?;
+        }
+        items.drop_front(*dropped);
+        items.truncate(*kept);
+        assert_eq!(rt; items.pop(), *last);
+        assert_eq!(rt; items.as_slice(), *left);
+    }
+    Ok(())
+}
+
+#[derive(Drop)]
+struct Book;
+
+fn walk_twice(steps: &mut Steps<Book>)
+    ensures { steps.new ≡ steps.old + 2 }
+{
+    steps.tick();
+    steps.tick();
+}
+
+#[test]
+fn steps_are_counted_without_bytes(_rt: HostRuntime) -> Result<(), Fail> {
+    let mut steps = Steps::start(Book);
+    walk_twice(&mut steps);
+    prove!(std::mem::size_of::<Steps<Book>>() == 0);
     Ok(())
 }

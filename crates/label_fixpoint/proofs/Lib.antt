@@ -1,4 +1,3 @@
 mod Listed
 mod Carried
 mod Counted
-mod Walks

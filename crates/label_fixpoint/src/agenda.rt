@@ -26,6 +26,7 @@ impl Model for Agenda {
 }
 
 impl Agenda {
+    /// So many places, none of them pending. It is refused for want of memory alone.
     pub(crate) fn new(alloc: Global, places: usize) -> Result<Agenda, NoMemory>
         ensures { IfOk result (λ a. a ≡ (places, [])) }
     {
@@ -35,6 +36,7 @@ impl Agenda {
         })
     }
 
+    /// Makes a place pending. It is refused for want of memory alone.
     pub(crate) fn add(&mut self, place: usize) -> Result<(), NoMemory>
         requires { place < self.old.0 }
         ensures ok { OnOk result (Adds self.old place self.new) }
@@ -47,6 +49,7 @@ impl Agenda {
         Ok(())
     }
 
+    /// Takes out the pending place that was added last. None exactly where no place is pending.
     pub(crate) fn pop(&mut self) -> Option<usize>
         ensures size { self.new.0 ≡ self.old.0 }
         ensures taken { self.old.1 ≡ self.new.1 ++ option_to_list result }

@@ -5,8 +5,7 @@ ghost use Rattle.label_fixpoint.specs.Meaning.{Meaning, IsLawful};
 ghost use Rattle.label_fixpoint.specs.Edges.{Appends, AppendsPart};
 
 use crate::edge::EdgeList;
-use crate::steps::Steps;
-use bk_base::NoMemory;
+use bk_base::{NoMemory, Steps};
 use std::alloc::Global;
 
 /// Places, numbered from 0, and states that may come to them.

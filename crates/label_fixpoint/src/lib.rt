@@ -7,13 +7,11 @@ mod flow;
 mod solution;
 mod solving;
 mod spreading;
-mod steps;
 
 pub use edge::{Edge, EdgeList};
 pub use flow::{Flow, Walk};
 pub use solution::Solution;
 pub use solving::solve;
-pub use steps::Steps;
 
 #[cfg(test)]
 mod tests;

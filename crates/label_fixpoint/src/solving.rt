@@ -9,8 +9,7 @@ use crate::edge::{Edge, EdgeList};
 use crate::flow::Walk;
 use crate::solution::Solution;
 use crate::spreading::spread;
-use crate::steps::Steps;
-use bk_base::{ItemList, NoMemory};
+use bk_base::{ItemList, NoMemory, Steps};
 use std::alloc::Global;
 use std::marker::PhantomData;
 
@@ -61,17 +60,15 @@ pub fn solve<F: Walk<L>, L>(
 {
     let mut states = untyped(alloc, flow.places())?;
     let mut agenda = Agenda::new(alloc, flow.places())?;
-    let mut pending = Vec::new(alloc);
-    pending.push(Edge {
+    let mut edges = EdgeList::new(alloc);
+    edges.push(Edge {
         target: flow.entry(),
         state: flow.first(alloc)?,
     })?;
-    spread(flow, &mut states, &mut agenda, &mut pending)?;
+    spread(flow, &mut states, &mut agenda, &mut edges)?;
     while let Some(place) = agenda.pop() {
-        let mut edges = EdgeList::from(pending);
         visit(alloc, flow, &states, place, &mut edges, steps)?;
-        pending = Vec::from(edges);
-        spread(flow, &mut states, &mut agenda, &mut pending)?;
+        spread(flow, &mut states, &mut agenda, &mut edges)?;
     }
     Ok(Solution {
         states: ItemList::from(states),

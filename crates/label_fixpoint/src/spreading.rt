@@ -5,7 +5,7 @@ ghost use Rattle.label_fixpoint.specs.Typing.{typing_of};
 ghost use Rattle.label_fixpoint.specs.Progress.{Progress, Raises, Takes, weight};
 
 use crate::agenda::Agenda;
-use crate::edge::Edge;
+use crate::edge::{Edge, EdgeList};
 use crate::flow::Flow;
 use bk_base::NoMemory;
 
@@ -43,16 +43,17 @@ fn take_in<F: Flow>(
     Ok(())
 }
 
-// Takes all edges in. What they change is pending then.
+/// Takes all edges in, after which the places that they changed are pending. It is refused for want of
+/// memory alone.
 pub(crate) fn spread<F: Flow>(
     flow: &F,
     states: &mut Vec<Option<F::State>>,
     agenda: &mut Agenda,
-    edges: &mut Vec<Edge<F::State>>,
+    edges: &mut EdgeList<F::State>,
 ) -> Result<(), NoMemory>
-    requires { Progress (F.meaning flow.now) states.old.items agenda.old edges.old.items }
+    requires { Progress (F.meaning flow.now) states.old.items agenda.old edges.old }
     ensures progress { OnOk result (Progress (F.meaning flow.now) states.new.items agenda.new []) }
-    ensures edges { OnOk result (edges.new.items ≡ []) }
+    ensures edges { OnOk result (edges.new ≡ []) }
     ensures count { OnOk result (length agenda.new.1 + sum_by (weight (F.meaning flow.now)) states.old.items ≤ length agenda.old.1 + sum_by (weight (F.meaning flow.now)) states.new.items) }
     ensures begins { OnOk result ((sum_by (weight (F.meaning flow.now)) states.new.items ≡ sum_by (weight (F.meaning flow.now)) states.old.items) ⊎ (0 < length agenda.new.1)) }
 {

@@ -1,29 +1,14 @@
-ghost use Rattle.std.specs.Prelude.{◌≡◌, ◌+◌, ◌*◌, ◌<◌, ◌≤◌, length, OnOk};
+ghost use Rattle.std.specs.Prelude.{◌+◌, ◌*◌, ◌<◌, ◌≤◌, length, OnOk};
 ghost use Rattle.label_fixpoint.specs.Jumps.{jumps_of};
 ghost use Rattle.label_fixpoint.specs.JumpLaws.{jumps_of-lawful};
 
 use super::*;
-use bk_base::NoMemory;
+use bk_base::{NoMemory, Steps};
 use std::alloc::Global;
 use std::test::Fail;
 
 #[derive(Drop)]
 struct Book;
-
-fn walk_twice(steps: &mut Steps<Book>)
-    ensures { steps.new ≡ steps.old + 2 }
-{
-    steps.tick();
-    steps.tick();
-}
-
-#[test]
-fn steps_are_counted_without_bytes(_rt: HostRuntime) -> Result<(), Fail> {
-    let mut steps = Steps::start(Book);
-    walk_twice(&mut steps);
-    prove!(std::mem::size_of::<Steps<Book>>() == 0);
-    Ok(())
-}
 
 #[derive(Drop)]
 struct Jumps<'m> {

@@ -10,7 +10,7 @@ pub spread-requires : goal.spread-requires
 spread-requires g c =
     let S = g.row.F-State.Denot in
     let m = g.F.Flow.meaning c.args.flow.now in
-    rw (c.in_ok-states.ensures, c.places.ensures, c.in_ok-agenda.ensures, c.places-2.ensures, c.in_ok-push.ensures.items, c.new-pending.ensures.items)
+    rw (c.in_ok-states.ensures, c.places.ensures, c.in_ok-agenda.ensures, c.places-2.ensures, c.in_ok-push.ensures.ok, c.new-edges.ensures)
     (started S m (g.met.F.Flow.lawful c.args.flow.now) m.place_count _ refl c.entry.ensures c.in_ok-first.ensures.fit c.in_ok-first.ensures.below c.in_ok-first.ensures.above)
 
 pub loop-place-init : goal.loop-place-init
@@ -52,9 +52,8 @@ spread-requires-in-Some g c =
     let so = c.loop-place.invariant.progress in
     let here = so.pending c.in-Some.place (rw c.in-Some.ensures.taken (Contains-push c.pop.new.self.1 c.in-Some.place)) in
     let put = c.in_ok-visit.ensures.ok here.1 (rw c.deref.ensures.value here.2) in
-    rw c.from-pending.ensures
-    (visited g.row.F-State.Denot (g.F.Flow.meaning c.args.flow.now) (g.met.F.Flow.lawful c.args.flow.now) c.loop-place.states.items c.loop-place.agenda c.pop.new.self c.in-Some.place here.1 c.visit.new.edges so
-    c.pop.ensures.size c.in-Some.ensures.taken here.2 (rw (c.from-edges.ensures, c.loop-place.invariant.empty) at put))
+    visited g.row.F-State.Denot (g.F.Flow.meaning c.args.flow.now) (g.met.F.Flow.lawful c.args.flow.now) c.loop-place.states.items c.loop-place.agenda c.pop.new.self c.in-Some.place here.1 c.visit.new.edges so
+    c.pop.ensures.size c.in-Some.ensures.taken here.2 (rw c.loop-place.invariant.empty at put)
 
 pub loop-place-smaller : goal.loop-place-smaller
 loop-place-smaller g c =

@@ -5,7 +5,7 @@ use Rattle.label_fixpoint.proofs.solving.solve.Given as goal
 abbrev pub invariant-loop-place : goal.invariant-loop-place
 invariant-loop-place g l = record {
   progress : Progress (g.F.Flow.meaning l.flow) l.states.items l.agenda [];
-  empty : l.pending.items ≡ [];
+  empty : l.edges ≡ [];
   grows : l.fn.steps ≤ l.steps;
   count : l.steps + length l.agenda.1 ≤ l.fn.steps + sum_by (weight (g.F.Flow.meaning l.flow)) l.states.items;
   begun : (l.fn.steps < l.steps) ⊎ (0 < length l.agenda.1);

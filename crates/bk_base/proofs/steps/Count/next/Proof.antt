@@ -1,10 +1,10 @@
 -- The next count is one more.
-use Rattle.label_fixpoint.proofs.Walks.{◌+◌, [], ◌∷◌, refl, proved, ftrue, ‵, raw, ◌⊛◌, ◌$◌, ◌∵◌, !, qed, move, keep, split, join, fjoin, suffices, done, agg, enter, no_more, returns, alloc_all, pass_all, free_all, look_at, sets, yes, shr_vals, shr_Tells, plain, RefOf, nothing, alive, owns, types_at, Stays, walk_of, says, stay_dropped, Goes-dropped, ends_at, empty_val, made}
+use Rattle.bk_base.proofs.Walks.{◌+◌, [], ◌∷◌, refl, proved, ftrue, ‵, raw, ◌⊛◌, ◌$◌, ◌∵◌, !, qed, move, keep, split, join, fjoin, suffices, done, agg, enter, no_more, returns, alloc_all, pass_all, free_all, look_at, sets, yes, shr_vals, shr_Tells, plain, RefOf, nothing, alive, owns, types_at, Stays, walk_of, says, stay_dropped, Goes-dropped, ends_at, empty_val, made}
 use mir.Syntax.{named}
-use Rattle.label_fixpoint.specs.contracts.steps.Count.{the_row as Row}
-use Rattle.label_fixpoint.specs.contracts.steps.Count.next as f
-use Rattle.label_fixpoint.proofs.steps.Count.next.Statement.{statement}
-use Rattle.label_fixpoint.proofs.steps.Count.next.Code as code
+use Rattle.bk_base.specs.contracts.steps.Count.{the_row as Row}
+use Rattle.bk_base.specs.contracts.steps.Count.next as f
+use Rattle.bk_base.proofs.steps.Count.next.Statement.{statement}
+use Rattle.bk_base.proofs.steps.Count.next.Code as code
 
 abbrev stayed : Stays f.ended.signature.params f.ended.kept
 stayed = (stay_dropped _ yes, tt)

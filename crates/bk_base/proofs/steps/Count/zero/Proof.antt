@@ -1,9 +1,9 @@
 -- The new count is at zero.
-use Rattle.label_fixpoint.proofs.Walks.{[], ◌∷◌, refl, proved, ftrue, ‵, raw, ◌$◌, ◌∵◌, !, qed, drop, fjoin, suffices, done, agg, enter, no_more, returns, alloc_all, pass_all, free_all, look_at, sets, nothing, on_entry, Stays, walk_of, says, ends_at, empty_val, made}
-use Rattle.label_fixpoint.specs.contracts.steps.Count.{the_row as Row}
-use Rattle.label_fixpoint.specs.contracts.steps.Count.zero as f
-use Rattle.label_fixpoint.proofs.steps.Count.zero.Statement.{statement}
-use Rattle.label_fixpoint.proofs.steps.Count.zero.Code as code
+use Rattle.bk_base.proofs.Walks.{[], ◌∷◌, refl, proved, ftrue, ‵, raw, ◌$◌, ◌∵◌, !, qed, drop, fjoin, suffices, done, agg, enter, no_more, returns, alloc_all, pass_all, free_all, look_at, sets, nothing, on_entry, Stays, walk_of, says, ends_at, empty_val, made}
+use Rattle.bk_base.specs.contracts.steps.Count.{the_row as Row}
+use Rattle.bk_base.specs.contracts.steps.Count.zero as f
+use Rattle.bk_base.proofs.steps.Count.zero.Statement.{statement}
+use Rattle.bk_base.proofs.steps.Count.zero.Code as code
 
 abbrev stayed : Stays f.ended.signature.params f.ended.kept
 stayed = tt
