@@ -1,19 +1,13 @@
 -- A plan names no labels but those of its operands.
-use Rattle.std.proofs.Common.{◌≡◌, ℕ, zero, suc, ◌+◌, ◌-◌, ◌==◌, Bool, true, false, ◌&&◌, List, [], ◌∷◌, ◌++◌, map, length, Option, Some, None, Ok, refl, sym, ap, ◌∙◌, arith, inl, inr}
+use Rattle.std.proofs.Common.{◌≡◌, ℕ, zero, suc, ◌+◌, ◌-◌, ◌==◌, Bool, true, false, ◌&&◌, List, [], ◌∷◌, length, Option, Some, None, Ok, refl, sym, ap, ◌∙◌, arith, inl, inr}
 use Rattle.std.specs.List.{list_all, slice_get, flat_map}
 use Rattle.std.proofs.lemmas.Bool.{and_parts, cases_Bool}
 use Rattle.std.specs.Option.{option_map}
-use Rattle.std.proofs.lemmas.Grind.{flat_map-append}
-use Rattle.std.proofs.lemmas.List.Folds.{list_all-append}
-use Rattle.compact_term.specs.declared.operand.Reg.{Reg}
-use Rattle.compact_term.specs.declared.operand.Plain.{Plain}
 use Rattle.compact_term.specs.declared.operand.Plain.TheVariants as plains
 use Rattle.compact_term.specs.declared.operand.Operand.{Operand}
 use Rattle.compact_term.specs.declared.operand.Operand.TheVariants as operands
 use Rattle.op_table.specs.declared.role.Role.{Role}
 use Rattle.op_table.specs.declared.role.Role.TheVariants as roles
-use Rattle.op_table.specs.declared.action.Action.{Action}
-use Rattle.op_table.specs.declared.action.Action.TheVariants as acts
 use Rattle.op_table.specs.declared.plans.Plan.{Plan}
 use Rattle.op_table.specs.declared.step.Step.{Step}
 use Rattle.op_table.specs.declared.step.Step.TheVariants as steps
@@ -21,113 +15,87 @@ use Rattle.op_table.specs.declared.step.Way.{Way}
 use Rattle.op_table.specs.declared.step.Way.TheVariants as ways
 use Rattle.op_table.specs.Instruction.{Instruction, IsInstruction}
 use Rattle.op_table.specs.Roles.{has_shape, misshapen, misshapen_from}
-use Rattle.op_table.specs.Table.{Row, table, row_with, arity_of, roles_in, roles_of}
+use Rattle.op_table.specs.Table.{Row, table, arity_of, roles_in, roles_of}
 use Rattle.op_table.specs.Layouts.{Layout, layout_of}
-use Rattle.op_table.specs.Planned.{planned, operand_at, label_in, members_in, keys, values, register_of, register_read, register_write, register_reads, register_writes, reads_of, reads, writes_of, actions, fails_in, fails_at, labels_in, exit_of, source_of}
+use Rattle.op_table.specs.Planned.{planned, operand_at, label_in, actions, fails_in, fails_at, labels_in, exit_of}
 use Rattle.op_table.specs.Planning.{called, plan_of}
 use Rattle.op_table.specs.Rules.{own_labels_of, own_labels, exit_labels, tag_labels_of, tag_labels, plan_labels}
-use Rattle.op_table.proofs.Named.{row_all, typed_roles}
-use Rattle.op_table.proofs.Small.{shaped_parts, and_from}
+use Rattle.op_table.proofs.Named.{typed_roles}
+use Rattle.op_table.proofs.Small.{shaped_parts}
+use Rattle.op_table.proofs.Collected.{passes, layout_passes, all_append, append_parts, all_collected}
+use Rattle.op_table.proofs.Tagless.{no_tag, untagged, step_tagless}
 use Rattle.op_table.proofs.Of_rows.{is_plan}
 
 -- ---- places of labels
 
--- an operand of this role is one label, or it is one or none
-is_label_role : Option Role → Bool
-is_label_role (Some roles.F) = true
+-- the roles whose operands are a label; a label or none; a label or labels
+is_label_role : Role → Bool
+is_label_role roles.F = true
 is_label_role _ = false
 
-is_fail_role : Option Role → Bool
-is_fail_role (Some roles.F) = true
-is_fail_role (Some roles.FOr0) = true
+is_fail_role : Role → Bool
+is_fail_role roles.F = true
+is_fail_role roles.FOr0 = true
 is_fail_role _ = false
 
-is_exit_role : Option Role → Bool
-is_exit_role (Some roles.F) = true
-is_exit_role (Some roles.Lp) = true
+is_exit_role : Role → Bool
+is_exit_role roles.F = true
+is_exit_role roles.Lp = true
 is_exit_role _ = false
+
+-- the role at a place is of these
+at_role : (Role → Bool) → Option Role → Bool
+at_role these (Some role) = these role
+at_role these None = false
 
 fails_named : List Role → Option ℕ → Bool
 fails_named rs None = true
-fails_named rs (Some k) = is_fail_role (slice_get rs (k - 1))
+fails_named rs (Some k) = at_role is_fail_role (slice_get rs (k - 1))
 
 exit_named : List Role → Way → Bool
-exit_named rs (ways.Labels k) = is_exit_role (slice_get rs (k - 1))
+exit_named rs (ways.Labels k) = at_role is_exit_role (slice_get rs (k - 1))
 exit_named rs _ = true
 
-no_tag : Action → Bool
-no_tag (acts.Tag slot label kind) = false
-no_tag _ = true
-
 tag_named : List Role → Step → Bool
-tag_named rs (steps.Tag j k kind) = is_label_role (slice_get rs (k - 1))
-tag_named rs (steps.Always action) = no_tag action
-tag_named rs _ = true
+tag_named rs (steps.Tag j k kind) = at_role is_label_role (slice_get rs (k - 1))
+tag_named rs s = untagged s
 
 layout_named : List Role → Layout → Bool
 layout_named rs l = fails_named rs l.fails && exit_named rs l.exit && list_all (tag_named rs) l.before && list_all (tag_named rs) l.after
 
-all_named : list_all (λ r. layout_named r.roles (layout_of (called r.form false)) && layout_named r.roles (layout_of (called r.form true))) table ≡ true
-unfolding is_label_role is_fail_role is_exit_role fails_named exit_named no_tag tag_named layout_named table
+all_named : list_all (passes layout_named) table ≡ true
+unfolding is_label_role is_fail_role is_exit_role at_role fails_named exit_named no_tag untagged tag_named layout_named table
 all_named = refl
-
-row_named_labels : (op : ℕ) (r : Row) → row_with op ≡ Some r → (ends : Bool) → layout_named r.roles (layout_of (called r.form ends)) ≡ true
-row_named_labels op r found false = (and_parts _ _ (row_all _ all_named op r found)).0
-row_named_labels op r found true = (and_parts _ _ (row_all _ all_named op r found)).1
-
--- ---- the operand at a place
-
-record Kept (q : ℕ → Bool) (os : List Operand) (j : ℕ) (role : Role) : Type 0 where
-  operand : Operand
-  is : slice_get os j ≡ Some operand
-  shaped : has_shape role operand ≡ true
-  kept : list_all q (own_labels_of role operand) ≡ true
-
-all_append : (q : ℕ → Bool) (xs ys : List ℕ) → list_all q xs ≡ true → list_all q ys ≡ true → list_all q (xs ++ ys) ≡ true
-all_append q xs ys first second = list_all-append q xs ys ∙ and_from first second
-
-append_parts : (q : ℕ → Bool) (xs ys : List ℕ) → list_all q (xs ++ ys) ≡ true → (list_all q xs ≡ true) × (list_all q ys ≡ true)
-append_parts q xs ys all = and_parts _ _ (sym (list_all-append q xs ys) ∙ all)
-
-kept_at : (q : ℕ → Bool) (k j : ℕ) (rs : List Role) (os : List Operand) (role : Role) → misshapen_from k rs os ≡ None → length rs ≡ length os → list_all q (own_labels rs os) ≡ true → slice_get rs j ≡ Some role → Kept q os j role
-kept_at q k j [] os role shaped same kept is = absurd cc
-kept_at q k j (r ∷ rs) [] role shaped same kept is = absurd (omega arith)
-kept_at q k zero (r ∷ rs) (o ∷ os) role shaped same kept is =
-    let r-is : r ≡ role = cc in
-    let own = (append_parts q (own_labels_of r o) (own_labels rs os) kept).0 in
-    let shape = (shaped_parts k r rs o os shaped).0 in
-    record { operand = o; is = refl; shaped = ap (λ (x : Role). has_shape x o) (sym r-is) ∙ shape; kept = ap (λ (x : Role). list_all q (own_labels_of x o)) (sym r-is) ∙ own }
-kept_at q k (suc j) (r ∷ rs) (o ∷ os) role shaped same kept is =
-    let found = kept_at q (k + 1) j rs os role (shaped_parts k r rs o os shaped).1 (omega arith) (append_parts q (own_labels_of r o) (own_labels rs os) kept).1 is in
-    record { operand = found.operand; is = found.is; shaped = found.shaped; kept = found.kept }
 
 -- ---- where it fails, and where it goes on
 
-fails_of : (q : ℕ → Bool) (role : Role) (o : Operand) → is_fail_role (Some role) ≡ true → list_all q (own_labels_of role o) ≡ true → list_all q (fails_in (Some o)) ≡ true
+-- what an operand of these roles says passes the test where its own labels do
+abbrev Says : (ℕ → Bool) → (Role → Bool) → (Option Operand → List ℕ) → Type 0
+Says q these says = (role : Role) (o : Operand) → these role ≡ true → has_shape role o ≡ true → list_all q (own_labels_of role o) ≡ true → list_all q (says (Some o)) ≡ true
+
+fails_of : (q : ℕ → Bool) → Says q is_fail_role fails_in
 unfolding is_fail_role
-fails_of q roles.F (operands.One (plains.F n)) named kept =
+fails_of q roles.F (operands.One (plains.F n)) named shaped kept =
     elim (cases_Bool (n == 0)) [
       | inl is ↦ rw is refl
       | inr not ↦ rw not kept
     ]
-fails_of q roles.F o named kept = refl
-fails_of q roles.FOr0 o named kept = kept
-fails_of q _ o named kept = absurd cc
+fails_of q roles.F o named shaped kept = refl
+fails_of q roles.FOr0 o named shaped kept = kept
+fails_of q _ o named shaped kept = absurd cc
 
-labels_of : (q : ℕ → Bool) (role : Role) (o : Operand) → is_exit_role (Some role) ≡ true → has_shape role o ≡ true → list_all q (own_labels_of role o) ≡ true → list_all q (labels_in (Some o)) ≡ true
+labels_of : (q : ℕ → Bool) → Says q is_exit_role labels_in
 unfolding is_exit_role
 labels_of q roles.F (operands.One p) named shaped kept = kept
-labels_of q roles.F (operands.List ps) named shaped kept = absurd cc
-labels_of q roles.F (operands.Alloc pairs) named shaped kept = absurd cc
-labels_of q roles.Lp (operands.One p) named shaped kept = absurd cc
+labels_of q roles.F _ named shaped kept = absurd cc
 labels_of q roles.Lp (operands.List ps) named shaped kept = kept
-labels_of q roles.Lp (operands.Alloc pairs) named shaped kept = absurd cc
+labels_of q roles.Lp _ named shaped kept = absurd cc
 labels_of q _ o named shaped kept = absurd cc
 
-label_in_of : (q : ℕ → Bool) (role : Role) (o : Operand) → is_label_role (Some role) ≡ true → list_all q (own_labels_of role o) ≡ true → list_all q (label_in (Some o) ∷ []) ≡ true
+label_of : (q : ℕ → Bool) → Says q is_label_role (λ o. label_in o ∷ [])
 unfolding is_label_role
-label_in_of q roles.F o named kept = kept
-label_in_of q _ o named kept = absurd cc
+label_of q roles.F o named shaped kept = kept
+label_of q _ o named shaped kept = absurd cc
 
 -- the operands of a row whose labels pass a test
 record Given (q : ℕ → Bool) (rs : List Role) (os : List Operand) : Type 0 where
@@ -135,97 +103,35 @@ record Given (q : ℕ → Bool) (rs : List Role) (os : List Operand) : Type 0 wh
   same : length rs ≡ length os
   kept : list_all q (own_labels rs os) ≡ true
 
+said_from : (q : ℕ → Bool) (these : Role → Bool) (says : Option Operand → List ℕ) → Says q these says → (k j : ℕ) (rs : List Role) (os : List Operand) → misshapen_from k rs os ≡ None → length rs ≡ length os → list_all q (own_labels rs os) ≡ true → at_role these (slice_get rs j) ≡ true → list_all q (says (slice_get os j)) ≡ true
+unfolding at_role
+said_from q these says each k j [] os shaped same kept is = absurd cc
+said_from q these says each k j (r ∷ rs) [] shaped same kept is = absurd (omega arith)
+said_from q these says each k zero (r ∷ rs) (o ∷ os) shaped same kept is = each r o is (shaped_parts k r rs o os shaped).0 (append_parts q (own_labels_of r o) (own_labels rs os) kept).0
+said_from q these says each k (suc j) (r ∷ rs) (o ∷ os) shaped same kept is = said_from q these says each (k + 1) j rs os (shaped_parts k r rs o os shaped).1 (omega arith) (append_parts q (own_labels_of r o) (own_labels rs os) kept).1 is
+
+said_at : (q : ℕ → Bool) (these : Role → Bool) (says : Option Operand → List ℕ) → Says q these says → (k : ℕ) (rs : List Role) (os : List Operand) → Given q rs os → at_role these (slice_get rs (k - 1)) ≡ true → list_all q (says (operand_at os k)) ≡ true
+said_at q these says each k rs os given is = said_from q these says each 1 (k - 1) rs os given.shaped given.same given.kept is
+
 fails_kept : (q : ℕ → Bool) (rs : List Role) (os : List Operand) (place : Option ℕ) → Given q rs os → fails_named rs place ≡ true → list_all q (fails_at os place) ≡ true
-unfolding fails_named is_fail_role
+unfolding fails_named
 fails_kept q rs os None given named = refl
-fails_kept q rs os (Some k) given named = go (slice_get rs (k - 1)) refl named where
-  go : (role : Option Role) → slice_get rs (k - 1) ≡ role → is_fail_role role ≡ true → list_all q (fails_in (slice_get os (k - 1))) ≡ true
-  go None is fail = absurd cc
-  go (Some role) is fail =
-      let found = kept_at q 1 (k - 1) rs os role given.shaped given.same given.kept is in
-      rw found.is (fails_of q role found.operand fail found.kept)
+fails_kept q rs os (Some k) given named = said_at q is_fail_role fails_in (fails_of q) k rs os given named
 
 exit_kept : (q : ℕ → Bool) (rs : List Role) (os : List Operand) (way : Way) → Given q rs os → exit_named rs way ≡ true → list_all q (exit_labels (exit_of os way)) ≡ true
-unfolding exit_named is_exit_role
-exit_kept q rs os (ways.Labels k) given named = go (slice_get rs (k - 1)) refl named where
-  go : (role : Option Role) → slice_get rs (k - 1) ≡ role → is_exit_role role ≡ true → list_all q (labels_in (slice_get os (k - 1))) ≡ true
-  go None is exit = absurd cc
-  go (Some role) is exit =
-      let found = kept_at q 1 (k - 1) rs os role given.shaped given.same given.kept is in
-      rw found.is (labels_of q role found.operand exit found.shaped found.kept)
+unfolding exit_named
+exit_kept q rs os (ways.Labels k) given named = said_at q is_exit_role labels_in (labels_of q) k rs os given named
 exit_kept q rs os _ given named = refl
 
 -- ---- handlers
 
-read_tagless : (reg : Option Reg) (rest : List Action) → tag_labels rest ≡ [] → tag_labels (register_read reg ++ rest) ≡ []
-read_tagless None rest tagless = tagless
-read_tagless (Some reg) rest tagless = tagless
-
-write_tagless : (reg : Option Reg) (rest : List Action) → tag_labels rest ≡ [] → tag_labels (register_write reg ++ rest) ≡ []
-write_tagless None rest tagless = tagless
-write_tagless (Some reg) rest tagless = tagless
-
-reads_tagless : (ps : List Plain) → tag_labels (register_reads ps) ≡ []
-reads_tagless [] = refl
-reads_tagless (p ∷ ps) = read_tagless (register_of p) (register_reads ps) (reads_tagless ps)
-
-writes_tagless : (ps : List Plain) → tag_labels (register_writes ps) ≡ []
-writes_tagless [] = refl
-writes_tagless (p ∷ ps) = write_tagless (register_of p) (register_writes ps) (writes_tagless ps)
-
-sources_tagless : (ps : List Plain) → tag_labels (map (λ p. acts.Read (source_of p)) ps) ≡ []
-sources_tagless [] = refl
-sources_tagless (p ∷ ps) = sources_tagless ps
-
-append_tagless : (xs ys : List Action) → tag_labels xs ≡ [] → tag_labels ys ≡ [] → tag_labels (xs ++ ys) ≡ []
-append_tagless xs ys first second = flat_map-append tag_labels_of xs ys ∙ ap (λ (ls : List ℕ). ls ++ tag_labels ys) first ∙ second
-
-role_tagless : (role : Role) (o : Operand) → tag_labels (reads_of role o) ≡ []
-role_tagless roles.S o = refl
-role_tagless roles.Ls o = reads_tagless (members_in (Some o))
-role_tagless _ o = refl
-
-roles_tagless : (rs : List Role) (os : List Operand) → tag_labels (reads rs os) ≡ []
-roles_tagless [] os = refl
-roles_tagless (role ∷ rs) [] = refl
-roles_tagless (role ∷ rs) (o ∷ os) = append_tagless (reads_of role o) (reads rs os) (role_tagless role o) (roles_tagless rs os)
-
-operand_tagless : (o : Option Operand) → tag_labels (writes_of o) ≡ []
-operand_tagless None = refl
-operand_tagless (Some (operands.One p)) = refl
-operand_tagless (Some (operands.List ps)) = writes_tagless ps
-operand_tagless (Some (operands.Alloc pairs)) = refl
-
-none_kept : (q : ℕ → Bool) (labels : List ℕ) → labels ≡ [] → list_all q labels ≡ true
-none_kept q labels none = ap (list_all q) none
-
-always_kept : (q : ℕ → Bool) (a : Action) → no_tag a ≡ true → list_all q (tag_labels (a ∷ [])) ≡ true
-unfolding no_tag
-always_kept q (acts.Tag slot label kind) none = absurd cc
-always_kept q _ none = refl
-
 tag_kept : (q : ℕ → Bool) (rs : List Role) (os : List Operand) (s : Step) → Given q rs os → tag_named rs s ≡ true → list_all q (tag_labels (actions rs os s)) ≡ true
-unfolding tag_named is_label_role
-tag_kept q rs os (steps.Tag j k kind) given named = go (slice_get rs (k - 1)) refl named where
-  go : (role : Option Role) → slice_get rs (k - 1) ≡ role → is_label_role role ≡ true → list_all q (label_in (slice_get os (k - 1)) ∷ []) ≡ true
-  go None is label = absurd cc
-  go (Some role) is label =
-      let found = kept_at q 1 (k - 1) rs os role given.shaped given.same given.kept is in
-      rw found.is (label_in_of q role found.operand label found.kept)
-tag_kept q rs os (steps.Always action) given named = always_kept q action named
-tag_kept q rs os steps.Reads given named = none_kept q _ (roles_tagless rs os)
-tag_kept q rs os (steps.ReadKeys k) given named = none_kept q _ (sources_tagless (keys (members_in (operand_at os k))))
-tag_kept q rs os (steps.Write k) given named = none_kept q _ (operand_tagless (operand_at os k))
-tag_kept q rs os (steps.WriteValues k) given named = none_kept q _ (writes_tagless (values (members_in (operand_at os k))))
-tag_kept q rs os _ given named = refl
+unfolding tag_named untagged
+tag_kept q rs os (steps.Tag j k kind) given named = said_at q is_label_role (λ o. label_in o ∷ []) (label_of q) k rs os given named
+tag_kept q rs os s given named = ap (list_all q) (step_tagless rs os s named)
 
 tags_kept : (q : ℕ → Bool) (rs : List Role) (os : List Operand) (list : List Step) → Given q rs os → list_all (tag_named rs) list ≡ true → list_all q (tag_labels (flat_map (actions rs os) list)) ≡ true
-tags_kept q rs os [] given named = refl
-tags_kept q rs os (s ∷ list) given named =
-    let parts = and_parts _ _ named in
-    let first = tag_kept q rs os s given parts.0 in
-    let others = tags_kept q rs os list given parts.1 in
-    ap (list_all q) (flat_map-append tag_labels_of (actions rs os s) (flat_map (actions rs os) list)) ∙ all_append q _ _ first others
+tags_kept q rs os list given named = all_collected q tag_labels_of (actions rs os) (tag_named rs) (λ s is. tag_kept q rs os s given is) list named
 
 -- ---- plans
 
@@ -246,4 +152,4 @@ plans_keep q i ends p arity is kept =
     let arity_is : arity_of i.op ≡ Some r.arity = ap (option_map (λ (x : Row). x.arity)) of_row.found in
     let operands_are : r.arity ≡ length i.operands = cc in
     let given : Given q r.roles i.operands = record { shaped = of_row.shaped; same = typed_roles i.op r of_row.found of_row.typed ∙ operands_are; kept = ap (λ (rs : List Role). list_all q (own_labels rs i.operands)) (sym own) ∙ kept } in
-    ap (λ (x : Plan). list_all q (plan_labels x)) of_row.planned ∙ planned_keep q r.roles i.operands (layout_of (called r.form ends)) given (row_named_labels i.op r of_row.found ends)
+    ap (λ (x : Plan). list_all q (plan_labels x)) of_row.planned ∙ planned_keep q r.roles i.operands (layout_of (called r.form ends)) given (layout_passes layout_named all_named i.op r of_row.found ends)

@@ -1,7 +1,6 @@
 -- What each exit of a plan finds.
-use Rattle.std.proofs.Common.{◌≡◌, ℕ, Bool, true, false, ◌&&◌, List, ◌∷◌, Some, Ok, refl, sym, ap, ◌∙◌, subst, inl, inr}
+use Rattle.std.proofs.Common.{◌≡◌, Bool, true, false, List, ◌∷◌, Some, Ok, refl, sym, ap, ◌∙◌, subst, inl, inr}
 use Rattle.std.specs.List.{list_all, slice_get}
-use Rattle.std.proofs.lemmas.Bool.{and_parts}
 use Rattle.op_table.specs.declared.role.Role.{Role}
 use Rattle.op_table.specs.declared.role.Role.TheVariants as roles
 use Rattle.op_table.specs.declared.plans.Plan.{Plan}
@@ -10,12 +9,12 @@ use Rattle.op_table.specs.declared.form.Form.TheVariants as forms
 use Rattle.op_table.specs.declared.step.Way.{Way}
 use Rattle.op_table.specs.declared.step.Way.TheVariants as ways
 use Rattle.op_table.specs.Instruction.{Instruction}
-use Rattle.op_table.specs.Table.{Row, table, row_with, roles_in, roles_of}
+use Rattle.op_table.specs.Table.{table, roles_in, roles_of}
 use Rattle.op_table.specs.Layouts.{layout_of}
 use Rattle.op_table.specs.Planned.{planned, operand_at, label_in}
 use Rattle.op_table.specs.Planning.{called, plan_of}
 use Rattle.op_table.specs.Rules.{CallsLocal, LeavesBy}
-use Rattle.op_table.proofs.Named.{row_all}
+use Rattle.op_table.proofs.Collected.{passes, layout_passes}
 use Rattle.op_table.proofs.Of_rows.{is_plan}
 
 -- ---- the roles of calls
@@ -29,13 +28,9 @@ calls_fit (ways.Enter k) rs = begins_call rs
 calls_fit (ways.TailLocal k) rs = begins_call rs
 calls_fit _ rs = true
 
-all_calls_fit : list_all (λ r. calls_fit (layout_of (called r.form false)).exit r.roles && calls_fit (layout_of (called r.form true)).exit r.roles) table ≡ true
+all_calls_fit : list_all (passes (λ rs l. calls_fit l.exit rs)) table ≡ true
 unfolding begins_call calls_fit table
 all_calls_fit = refl
-
-row_calls : (op : ℕ) (r : Row) → row_with op ≡ Some r → (ends : Bool) → calls_fit (layout_of (called r.form ends)).exit r.roles ≡ true
-row_calls op r found false = (and_parts _ _ (row_all _ all_calls_fit op r found)).0
-row_calls op r found true = (and_parts _ _ (row_all _ all_calls_fit op r found)).1
 
 begin_call : (rs : List Role) → begins_call rs ≡ true → (slice_get rs 0 ≡ Some roles.R) × (slice_get rs 1 ≡ Some roles.E)
 unfolding begins_call
@@ -66,6 +61,6 @@ leaves i rs _ fit same = tt
 pub plans_leave : (i : Instruction) (ends : Bool) (p : Plan) → plan_of i ends ≡ Ok p → LeavesBy i p.exit p
 plans_leave i ends p is =
     let of_row = is_plan i ends p is in
-    let fit = row_calls i.op of_row.row of_row.found ends in
+    let fit = layout_passes (λ rs l. calls_fit l.exit rs) all_calls_fit i.op of_row.row of_row.found ends in
     let left = leaves i of_row.row.roles (called of_row.row.form ends) fit (ap roles_in of_row.found) in
     subst (λ (x : Plan). LeavesBy i x.exit x) (sym of_row.planned) left

@@ -1,8 +1,10 @@
 pub mod Numbered
 pub mod Named
 pub mod Small
+pub mod Collected
 pub mod Fitting
 pub mod Of_rows
 pub mod Leaving
+pub mod Tagless
 pub mod Labels_kept
 pub mod Named_registers

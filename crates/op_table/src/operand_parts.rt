@@ -13,14 +13,15 @@ const WORDS: u64 = 0;
 
 const FUNS: u64 = 2;
 
-// Operand `k`, counted from 1.
-pub(crate) fn operand_at(operands: &[Operand], k: u8) -> Option<&Operand>
+/// Operand `k`, counted from 1, and 0 says the first too. None exactly where there are not so many.
+pub fn operand_at(operands: &[Operand], k: u8) -> Option<&Operand>
     ensures { option_copied result ≡ operand_at operands.now k }
 {
     operands.get(usize::from(k.saturating_sub(1)))
 }
 
-pub(crate) fn register_of(plain: &Plain) -> Option<Reg>
+/// The register of an operand, with or without a type. None exactly where it is no register.
+pub fn register_of(plain: &Plain) -> Option<Reg>
     ensures { result ≡ register_of plain.now }
 {
     match plain {
@@ -31,6 +32,7 @@ pub(crate) fn register_of(plain: &Plain) -> Option<Reg>
     }
 }
 
+// The register of an operand, or x0 where it is none.
 pub(crate) fn register_in(operand: Option<&Operand>) -> Reg
     ensures { result ≡ register_in (option_copied operand.entry) }
 {
@@ -40,6 +42,7 @@ pub(crate) fn register_in(operand: Option<&Operand>) -> Reg
     }
 }
 
+// Where the value of an operand is read: in its register, or in the instruction itself.
 pub(crate) fn source_of(plain: &Plain) -> Src
     ensures { result ≡ source_of plain.now }
 {
@@ -49,6 +52,7 @@ pub(crate) fn source_of(plain: &Plain) -> Src
     }
 }
 
+// Where the value of an operand is read, as `source_of` says. A list or no operand is a constant.
 pub(crate) fn source_in(operand: Option<&Operand>) -> Src
     ensures { result ≡ source_in (option_copied operand.entry) }
 {
@@ -58,7 +62,8 @@ pub(crate) fn source_in(operand: Option<&Operand>) -> Src
     }
 }
 
-pub(crate) fn number_in(operand: Option<&Operand>) -> u64
+/// The number of an operand, or 0 where it is none.
+pub fn number_in(operand: Option<&Operand>) -> u64
     ensures { result ≡ number_in (option_copied operand.entry) }
 {
     match operand {
@@ -67,6 +72,7 @@ pub(crate) fn number_in(operand: Option<&Operand>) -> u64
     }
 }
 
+// The slot of an operand, or 0 where it is none.
 pub(crate) fn slot_in(operand: Option<&Operand>) -> u32
     ensures { result ≡ slot_in (option_copied operand.entry) }
 {
@@ -76,6 +82,7 @@ pub(crate) fn slot_in(operand: Option<&Operand>) -> u32
     }
 }
 
+// The label of an operand that holds no others, or 0 where it is none.
 pub(crate) fn label_of(plain: &Plain) -> u32
     ensures { result ≡ label_of plain.now }
 {
@@ -85,7 +92,8 @@ pub(crate) fn label_of(plain: &Plain) -> u32
     }
 }
 
-pub(crate) fn label_in(operand: Option<&Operand>) -> u32
+/// The label of an operand, or 0 where it is none.
+pub fn label_in(operand: Option<&Operand>) -> u32
     ensures { result ≡ label_in (option_copied operand.entry) }
 {
     match operand {
@@ -94,7 +102,8 @@ pub(crate) fn label_in(operand: Option<&Operand>) -> u32
     }
 }
 
-pub(crate) fn members_in(operand: Option<&Operand>) -> &[Plain]
+/// The members of a list, in order, or none where the operand is no list.
+pub fn members_in(operand: Option<&Operand>) -> &[Plain]
     ensures { result.now ≡ members_in (option_copied operand.entry) }
 {
     match operand {
@@ -119,6 +128,7 @@ fn amount_of(kind: u64, pairs: &[(u64, u64)]) -> u64
     }
 }
 
+// How many words a heap need asks for. A number alone is words.
 pub(crate) fn words_in(operand: Option<&Operand>) -> u64
     ensures { result ≡ words_in (option_copied operand.entry) }
 {
@@ -129,6 +139,7 @@ pub(crate) fn words_in(operand: Option<&Operand>) -> u64
     }
 }
 
+// How many funs a heap need asks for.
 pub(crate) fn funs_in(operand: Option<&Operand>) -> u64
     ensures { result ≡ funs_in (option_copied operand.entry) }
 {

@@ -1,6 +1,6 @@
 //! Laws over the plans of all instructions.
 
-ghost use Rattle.std.specs.Prelude.{◌≡◌, ◌++◌, ℕ, Bool, Ok, true};
+ghost use Rattle.std.specs.Prelude.{◌≡◌, [], ◌++◌, ℕ, Bool, Ok, true};
 ghost use Rattle.std.specs.List.{list_all};
 ghost use Rattle.compact_term.specs.declared.operand.Reg.{Reg};
 ghost use Rattle.compact_term.specs.declared.operand.Reg.TheVariants as regs;
@@ -8,7 +8,7 @@ ghost use Rattle.op_table.specs.declared.plans.Plan.{Plan};
 ghost use Rattle.op_table.specs.Instruction.{Instruction, IsInstruction};
 ghost use Rattle.op_table.specs.Table.{roles_of};
 ghost use Rattle.op_table.specs.Planning.{plan_of};
-ghost use Rattle.op_table.specs.Rules.{IsPlanOf, LeavesBy, own_labels, plan_labels, named, written};
+ghost use Rattle.op_table.specs.Rules.{IsPlanOf, LeavesBy, own_labels, tag_labels, plan_labels, named, written};
 
 /// A plan is that of the row of the opcode, and the operands are what the roles of the row say.
 #[tactic(auto, using(crate::proofs::Of_rows::is_plan))]
@@ -20,6 +20,12 @@ pub fn plans_are_of_rows()
 #[tactic(auto, using(crate::proofs::Leaving::plans_leave))]
 pub fn plans_leave_by_rules()
     ensures { (i : Instruction) (ends : Bool) (p : Plan) → plan_of i ends ≡ Ok p → LeavesBy i p.exit p }
+{}
+
+/// Handlers are put in by what comes first.
+#[tactic(auto, using(crate::proofs::Tagless::plans_tag))]
+pub fn plans_tag_first()
+    ensures { (i : Instruction) (ends : Bool) (p : Plan) → plan_of i ends ≡ Ok p → tag_labels p.after ≡ [] }
 {}
 
 /// A plan names no labels but those of operands that are to be labels of the function itself.

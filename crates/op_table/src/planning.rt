@@ -2,7 +2,7 @@
 
 ghost use Rattle.std.specs.Prelude.{◌≡◌, ◌⊎◌, ◌<◌, ◌++◌, Bool, true, None, Some, Err, length, IsTrue, IfOk, OnOk, IfSome, option_copied, option_map};
 ghost use Rattle.op_table.specs.Layouts.{layout_from, layout_of};
-ghost use Rattle.op_table.specs.Table.{arity_of, row_of};
+ghost use Rattle.op_table.specs.Table.{arity_of, row_of, roles_of};
 ghost use Rattle.op_table.specs.Planning.{called, typed_with, plan_of};
 ghost use Rattle.op_table.specs.Roles.{misshapen};
 ghost use Rattle.op_table.specs.Planned.{operand_at, fails_in, fails_at, raises_in, raises_at, value_labels, labels_in, exit_of, planned, layout_fits};
@@ -131,10 +131,11 @@ fn called(form: Form, ends: bool) -> Form
     }
 }
 
-// The row of an opcode, if it is one that is validated.
-fn typed_row(op: u8) -> Option<&'static OpRow>
+/// The row of an opcode, if it is one that is validated.
+pub fn typed_row(op: u8) -> Option<&'static OpRow>
     ensures row { option_map row_of (option_copied result) ≡ typed_with op }
     ensures arity { IfSome result (λ r. arity_of op ≡ Some (length r.now.roles.now)) }
+    ensures roles { IfSome result (λ r. roles_of op ≡ r.now.roles.now) }
     ensures few { IfSome result (λ r. length r.now.roles.now < 256) }
     ensures fits { IfSome result (λ r. (ends : Bool) → IsTrue (layout_fits r.now.roles.now (layout_of (called r.now.form ends)))) }
 {

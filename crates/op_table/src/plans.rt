@@ -6,6 +6,7 @@ ghost use Rattle.op_table.specs.declared.plans.PlanRefusal.TheVariants as refusa
 use crate::action::Action;
 use crate::short_list::ShortList;
 use bk_base::NoMemory;
+use thiserror::Error;
 
 /// Actions in order. Up to six stand in the value itself, which is enough for each instruction without
 /// a list.
@@ -49,13 +50,16 @@ pub struct Plan {
 }
 
 /// Why an instruction has no plan.
-#[derive(Clone, Copy, Debug, PartialEq, Eq)]
+#[derive(Clone, Copy, Debug, PartialEq, Eq, Error)]
 pub enum PlanRefusal {
     /// Nothing is known of the opcode.
+    #[error("unsupported opcode {op}")]
     Unsupported { op: u8 },
     /// This operand, the first of those, does not look as the opcode asks. The first has number 1.
+    #[error("wrong operand {operand}")]
     Shape { operand: u32 },
     /// No memory was found.
+    #[error("out of memory")]
     NoMemory,
 }
 

@@ -1,6 +1,6 @@
 //! Lists of which most are short.
 
-ghost use Rattle.std.specs.Prelude.{◌≡◌, ◌↔◌, [], ◌∷◌, ◌++◌, length, slice_get, IsTrue, OnOk, OnErr, option_copied};
+ghost use Rattle.std.specs.Prelude.{◌≡◌, ◌↔◌, [], ◌∷◌, ◌++◌, length, slice_get, IsTrue, IfOk, OnOk, OnErr, option_copied};
 
 use bk_base::NoMemory;
 use smallvec::SmallVec;
@@ -32,6 +32,15 @@ impl<T: MadeWith<Global> + Drop, const N: usize> ShortList<T, N> {
         ShortList {
             items: SmallVec::new(alloc),
         }
+    }
+
+    /// No items, and room for `n`. Memory is taken for more than `N`.
+    pub fn with_capacity(alloc: Global, n: usize) -> Result<ShortList<T, N>, NoMemory>
+        ensures { IfOk result (λ l. l ≡ []) }
+    {
+        Ok(ShortList {
+            items: SmallVec::with_capacity(alloc, n)?,
+        })
     }
 
     /// Puts an item at the end. It is refused for want of memory alone, and then nothing has changed.
