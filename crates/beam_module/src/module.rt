@@ -1,7 +1,7 @@
 //! A module that was opened.
 
-ghost use Rattle.std.specs.Prelude.{◌≡◌, ◌↔◌, ℕ, Some, length, slice_get};
-ghost use Rattle.func_split.specs.Functions.{IsEntry, IsSplit};
+ghost use Rattle.std.specs.Prelude.{◌≡◌, ◌↔◌, ℕ, ◌+◌, ◌^◌, ◌<◌, Some, IfSome, length, slice_get};
+ghost use Rattle.func_split.specs.Functions.{IsEntry, IsSplit, StandsIn};
 
 use func_split::{Function, SplitCode};
 use iff_form::Form;
@@ -21,11 +21,14 @@ pub struct Module<'a> {
 }
 
 impl<'a> Model for Module<'a> {
+    ghost use Rattle.std.specs.Prelude.{◌<◌, ◌^◌, length};
     ghost use Rattle.beam_module.specs.Module.{ModuleValue};
 
     ghost Value = { ModuleValue };
 
     ghost view = { λ m. record { form = m.form; atoms = m.atoms; code = m.code; imports = m.imports; funs = m.funs; literals = m.literals } };
+
+    ghost invariant = { λ m. length m.code.instrs < 2 ^ 32 };
 }
 
 impl<'a> Module<'a> {
@@ -45,9 +48,12 @@ impl<'a> Module<'a> {
         self.code.functions()
     }
 
-    /// Function `i`, counted from 0. None exactly where there are not so many.
+    /// Function `i`, counted from 0. None exactly where there are not so many. The numbers of functions
+    /// and the places of instructions in the code are below 2^32.
     pub fn function<'m>(&'m self, i: usize) -> Option<Function<'m>>
-        ensures { result ≡ slice_get self.now.code.functions i }
+        ensures same { result ≡ slice_get self.now.code.functions i }
+        ensures stands { IfSome result (λ f. StandsIn self.now.code.instrs i f) }
+        ensures places { IfSome result (λ f. (i < 2 ^ 32) × (f.first + length f.instrs < 2 ^ 32)) }
     {
         self.code.function(i)
     }

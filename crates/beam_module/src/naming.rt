@@ -1,6 +1,6 @@
 //! The name of a module.
 
-ghost use Rattle.std.specs.Prelude.{◌≡◌, ◌⊎◌, ℕ, List, IfOk, IfErr, Ok, Err, None, Some, slice_get};
+ghost use Rattle.std.specs.Prelude.{◌≡◌, ◌⊎◌, ℕ, ◌^◌, ◌<◌, List, length, IfOk, IfErr, Ok, Err, None, Some, slice_get};
 ghost use Rattle.bk_codec.specs.Reading.{GivesAll, refused_as};
 ghost use Rattle.iff_form.specs.Form.{payload_of};
 ghost use Rattle.index_tables.specs.Atoms.{SpellsAtoms};
@@ -19,6 +19,7 @@ pub(crate) const ATOMS: Id = Id(*b"AtU8");
 /// The payload of the chunk with this id, which has to be there.
 pub(crate) fn present<'a>(form: &Form<'a>, id: Id) -> Result<&'a [u8], ModuleRefusal>
     ensures found { IfOk result (λ payload. payload_of id form.now ≡ Some payload.now) }
+    ensures short { IfOk result (λ payload. length payload.now < 2 ^ 32) }
     ensures missing { IfErr result (λ e. (payload_of id form.now ≡ None) × (e ≡ ModuleRefusal.Missing id)) }
 {
     form.find(id).ok_or(ModuleRefusal::Missing { id })

@@ -12,6 +12,7 @@ use crate::naming::{ATOMS, atoms_of, present};
 use crate::reading::{CODE, code_of, form_from};
 use crate::refusal::{ModuleRefusal, TableWhy};
 use bk_base::ItemList;
+use code_chunk::code_has_fewer_instructions_than_bytes;
 use func_split::split;
 use iff_form::{Form, Id};
 use index_tables::{Atoms, Entry, Export, Funs, Imports, TableRefusal, read_entries};
@@ -107,6 +108,7 @@ fn tables_of(alloc: Global, form: &Form<'_>, atoms: &Atoms) -> Result<Tables, Mo
 fn module_from<'a>(alloc: Global, form: Form<'a>) -> Result<Module<'a>, ModuleRefusal>
     ensures { GivesAll ModuleRefusal.NoMemory (λ m. m) result (module_in form.entry) }
 {
+    code_has_fewer_instructions_than_bytes();
     let names = present(&form, ATOMS)?;
     let payload = present(&form, CODE)?;
     let atoms = named(atoms_of(alloc, names)?)?;

@@ -3,6 +3,7 @@
 ghost use Rattle.std.specs.Prelude.{◌≡◌, ◌⊎◌, List, IfOk, Ok, Err};
 ghost use Rattle.bk_codec.specs.Reading.{GivesAll, refused_as};
 ghost use Rattle.code_chunk.specs.Reading.{code_at};
+ghost use Rattle.code_chunk.specs.Spelling.{SpellsCode};
 ghost use Rattle.iff_form.specs.Chunk.{plain, plains};
 ghost use Rattle.iff_form.specs.Form.{IsForm};
 ghost use Rattle.beam_module.specs.File.{AreChunks, FileChunk, IsFile};
@@ -34,7 +35,8 @@ pub(crate) fn form_from<'a>(alloc: Global, bytes: &'a [u8]) -> Result<Form<'a>, 
 
 /// The code of a payload, which is that of the chunk `Code`.
 pub(crate) fn code_of(alloc: Global, payload: &[u8]) -> Result<CodeVal, ModuleRefusal>
-    ensures { GivesAll ModuleRefusal.NoMemory (λ code. code) result (refused_as ModuleRefusal.Code (code_at payload.now)) }
+    ensures found { IfOk result (λ code. SpellsCode code payload.now) }
+    ensures exact { GivesAll ModuleRefusal.NoMemory (λ code. code) result (refused_as ModuleRefusal.Code (code_at payload.now)) }
 {
     match read_code(alloc, payload) {
         Ok(code) => Ok(code),

@@ -95,3 +95,31 @@ module _ (operand_shortest : (o : Operand) (bytes : List ℕ) → Spells o bytes
 
 pub code_is_shortest : (c : CodeVal) (payload : List ℕ) → SpellsCode c payload → length (canonical_code c) ≤ length payload
 code_is_shortest = code_shortest canonical_shortest
+
+-- ---- how many instructions there are
+
+-- each instruction takes at least a byte
+instrs_fit : (instrs : List Instruction) (bytes : List ℕ) → SpellsMany SpellsInstr instrs bytes → length instrs ≤ length bytes
+instrs_fit [] bytes is = omega arith
+instrs_fit (i ∷ instrs) bytes is =
+    let first : SpellsInstr i is.front = is.front_is in
+    omega (arith, then_length is, then_length first.1, ap length first.1.front_is, instrs_fit instrs is.back is.back_is)
+
+pub code_fits : (c : CodeVal) (payload : List ℕ) → SpellsCode c payload → length c.instrs < length payload
+code_fits c payload is =
+    let format = is.back_is in
+    let max_op = format.back_is in
+    let labels = max_op.back_is in
+    let functions = labels.back_is in
+    let extra = functions.back_is in
+    omega (
+      arith,
+      then_length is,
+      then_length format,
+      then_length max_op,
+      then_length labels,
+      then_length functions,
+      then_length extra,
+      word_length _ _ is.front_is,
+      instrs_fit c.instrs extra.back extra.back_is,
+    )

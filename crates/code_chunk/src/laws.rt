@@ -61,6 +61,11 @@ pub fn canonical_code_is_spelled()
     compact_term::canonical_is_spelled();
 }
 
+/// A payload that spells code has more bytes than the code has instructions.
+pub fn code_has_fewer_instructions_than_bytes()
+    ensures { (c : CodeVal) (payload : List ℕ) → SpellsCode c payload → length c.instrs < length payload }
+{}
+
 /// No payload that spells code is shorter than what is written of it.
 pub fn canonical_code_is_shortest()
     ensures { (c : CodeVal) (payload : List ℕ) → SpellsCode c payload → length (canonical_code c) ≤ length payload }

@@ -10,8 +10,9 @@ mod writing;
 pub use code::{CodeVal, read_code};
 pub use instructions::InstrList;
 pub use laws::{
-    canonical_code_is_shortest, canonical_code_is_spelled, canonical_instr_is_spelled, one_code,
-    one_instr_form, one_stop, reading_is_exact, spelled_code_is_bytes, spelled_code_is_proper,
+    canonical_code_is_shortest, canonical_code_is_spelled, canonical_instr_is_spelled,
+    code_has_fewer_instructions_than_bytes, one_code, one_instr_form, one_stop, reading_is_exact,
+    spelled_code_is_bytes, spelled_code_is_proper,
 };
 pub use refusal::CodeRefusal;
 pub use writing::write_code;

@@ -8,7 +8,7 @@ use Rattle.op_table.specs.Instruction.{Instruction}
 use Rattle.func_split.specs.declared.mark.Mark.TheVariants as marks
 use Rattle.func_split.specs.declared.splitting.Extent.{Extent}
 use Rattle.func_split.specs.Marks.{marks_of, mark_of}
-use Rattle.func_split.specs.Functions.{Piece, IsFunction, AreFrom, IsSplit}
+use Rattle.func_split.specs.Functions.{Piece, IsFunction, AreFrom, IsSplit, StandsIn}
 use Rattle.func_split.specs.Reading.{pieces_of, piece_of, end_before}
 
 -- ---- items of lists
@@ -82,6 +82,31 @@ size_is f is =
     let behind = marks.Func (Some (f.name, f.arity)) ∷ marks.Label (Some is.entry_label) ∷ is.body in
     let joined : length (marks_of f.instrs) ≡ suc (length (heads ++ behind)) = ap length is.marks in
     omega (arith, joined, length-map f.instrs mark_of, length-append heads behind, length-replicate is.lines marks.Line)
+
+-- functions have instructions, and one more stands behind them
+some_left : (fs : List Piece) (at : ℕ) (code : List Instruction) → AreFrom at fs code → 0 < length code
+some_left [] at code are = omega (arith, ap length are, length-map code mark_of)
+some_left (f ∷ fs) at code are =
+    omega (arith, ap length are.1.1, length-append f.instrs are.1.0, some_left fs (at + length f.instrs) are.1.0 are.1.2)
+
+-- where function i begins and ends, in code that begins at a place
+bounds : (fs : List Piece) (at : ℕ) (code : List Instruction) → AreFrom at fs code → AllByRecursion IsFunction fs → (i : ℕ) (f : Piece) → slice_get fs i ≡ Some f
+    → (at + i ≤ f.first) × (f.first + length f.instrs < at + length code)
+bounds [] at code are each i f e = absurd (none-some f e)
+bounds (g ∷ fs) at code are each zero f e =
+    let left = some_left fs (at + length g.instrs) are.1.0 are.1.2 in
+    let joined = ap length are.1.1 ∙ length-append g.instrs are.1.0 in
+    subst (λ (h : Piece). (at + 0 ≤ h.first) × (h.first + length h.instrs < at + length code)) (same_Some g f e) (omega (arith, are.0), omega (arith, are.0, left, joined))
+bounds (g ∷ fs) at code are each (suc i) f e =
+    let later = bounds fs (at + length g.instrs) are.1.0 are.1.2 each.1 i f e in
+    let joined = ap length are.1.1 ∙ length-append g.instrs are.1.0 in
+    (omega (arith, size_is g each.0, later.0), omega (arith, later.1, joined))
+
+pub stands_in : (labels : ℕ) (code : List Instruction) (functions : List Piece) → IsSplit labels code functions → (i : ℕ) (f : Piece) → slice_get functions i ≡ Some f → StandsIn code i f
+stands_in labels code functions split i f e =
+    let is = each_at IsFunction functions split.each i f e in
+    let bound = bounds functions 0 code split.pieces split.each i f e in
+    record { before = omega (arith, bound.0); within = omega (arith, bound.1); entry = omega (arith, size_is f is, is.entry); is = is }
 
 pub record IsPlaced (code : List Instruction) (e : Extent) (end : ℕ) : Type 0 where
   pub first_end : e.first < end

@@ -50,6 +50,13 @@ pub record IsSplit (labels : ℕ) (code : List Instruction) (functions : List Pi
   pub range : (place number : ℕ) → IsLabelAt (marks_of code) place number → (0 < number) × (number < labels)
   pub once : (place other number : ℕ) → IsLabelAt (marks_of code) place number → IsLabelAt (marks_of code) other number → place ≡ other
 
+-- function i stands in the code: before it stand no fewer instructions than functions, it ends before the last instruction, and its entry label is in it
+pub record StandsIn (code : List Instruction) (i : ℕ) (f : Piece) : Type 0 where
+  pub before : i ≤ f.first
+  pub within : f.first + length f.instrs < length code
+  pub entry : f.entry < length f.instrs
+  pub is : IsFunction f
+
 -- the label is the entry label of a function with this arity
 pub record IsEntry (functions : List Piece) (label arity : ℕ) : Type 0 where
   pub number : ℕ

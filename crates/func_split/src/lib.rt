@@ -13,7 +13,10 @@ mod splitting;
 mod tests;
 
 pub use function::Function;
-pub use laws::{code_splits_where_nothing_is_wrong, one_split, splitting_is_exact};
+pub use laws::{
+    code_splits_where_nothing_is_wrong, functions_stand_in_their_code, one_split,
+    splitting_is_exact,
+};
 pub use refusal::{FunctionWhy, SplitRefusal};
 pub use split_code::SplitCode;
 pub use splitting::split;

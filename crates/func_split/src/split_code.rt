@@ -1,8 +1,8 @@
 //! Code that is split into functions.
 
-ghost use Rattle.std.specs.Prelude.{◌≡◌, ◌↔◌, ℕ, ◌-◌, ◌<◌, ◌≤◌, List, Some, length, take, drop, slice_get};
+ghost use Rattle.std.specs.Prelude.{◌≡◌, ◌↔◌, ℕ, ◌-◌, ◌<◌, ◌≤◌, List, Some, IfSome, length, take, drop, slice_get};
 ghost use Rattle.func_split.specs.declared.mark.Mark.TheVariants as marks;
-ghost use Rattle.func_split.specs.Functions.{IsEntry, IsSplit};
+ghost use Rattle.func_split.specs.Functions.{IsEntry, IsSplit, StandsIn};
 ghost use Rattle.func_split.specs.Reading.{end_before};
 
 use crate::function::Function;
@@ -75,7 +75,9 @@ impl SplitCode {
 
     /// Function `i`, counted from 0. None exactly where there are not so many.
     pub fn function<'m>(&'m self, i: usize) -> Option<Function<'m>>
-        ensures { result ≡ slice_get self.now.functions i }
+        ensures same { result ≡ slice_get self.now.functions i }
+        // It stands in the code.
+        ensures stands { IfSome result (λ f. StandsIn self.now.instrs i f) }
     {
         splitting_is_exact();
         let extent = self.extents.get(i)?;

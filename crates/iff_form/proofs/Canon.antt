@@ -1,13 +1,14 @@
 -- The canonical spelling of chunks is a form of them, and how long forms are.
-use Rattle.std.proofs.Common.{◌≡◌, ℕ, ◌+◌, ◌^◌, ◌<◌, List, [], ◌∷◌, ◌++◌, length, refl, sym, ap, arith, length-append}
+use Rattle.std.proofs.Common.{◌≡◌, ℕ, ◌+◌, ◌^◌, ◌<◌, ◌≤◌, List, [], ◌∷◌, ◌++◌, length, get_or, refl, sym, ap, arith, length-append}
 use Rattle.std.specs.List.{AllByRecursion, flat_map, sum_by}
-use Rattle.std.proofs.lemmas.List.{length-replicate}
+use Rattle.std.proofs.lemmas.List.{get_or-map, length-map, length-replicate}
 use Rattle.std.proofs.lemmas.List.Concat.{flat_map-cons}
-use Rattle.std.proofs.lemmas.List.Sums.{sum_by-cons}
+use Rattle.std.proofs.lemmas.List.Sums.{get_or-le-sum_by, sum_by-cons}
 use Rattle.byteorder.specs.Endian.{big_bytes}
 use Rattle.bk_codec.specs.Spelling.{SpellsMany}
+use Rattle.iff_form.specs.declared.chunk.Chunk.{Chunk}
 use Rattle.iff_form.specs.Canonical.{ChunkMeetsType, canonical_chunk, canonical_form, zeros_behind}
-use Rattle.iff_form.specs.Chunk.{PlainChunk, SpellsChunk, chunk_size, padding_of}
+use Rattle.iff_form.specs.Chunk.{PlainChunk, SpellsChunk, chunk_size, padding_of, plain, plains}
 use Rattle.iff_form.specs.Form.{AreDistinct, IsForm, form_size, head_of}
 use Rattle.iff_form.proofs.Walk.{length-chunks}
 
@@ -19,6 +20,13 @@ form_len chunks bytes is =
 
 pub form_fits : (chunks : List PlainChunk) (bytes : List ℕ) → IsForm chunks bytes → form_size chunks < 2 ^ 32
 form_fits chunks bytes is = omega (arith, is.fits, length-chunks chunks is.body is.spelled)
+
+-- the payload of each chunk is shorter
+pub payload_short : (chunks : List Chunk) (i : ℕ) (d : Chunk) → form_size (plains chunks) < 2 ^ 32 → i < length chunks → length (get_or chunks i d).payload.now < 2 ^ 32
+payload_short chunks i d fits below =
+    let within : chunk_size (get_or (plains chunks) i (plain d)) ≤ sum_by chunk_size (plains chunks) = get_or-le-sum_by chunk_size (plains chunks) i (plain d) (omega (arith, below, length-map chunks plain)) in
+    let one = ap chunk_size (get_or-map plain chunks i d (plain d) below) in
+    omega (arith, fits, within, one)
 
 -- ---- the canonical spelling
 

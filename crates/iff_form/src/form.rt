@@ -1,6 +1,6 @@
 //! A form that was read.
 
-ghost use Rattle.std.specs.Prelude.{◌≡◌, ◌<◌, ◌^◌, map, option_copied};
+ghost use Rattle.std.specs.Prelude.{◌≡◌, ◌<◌, ◌^◌, length, map, option_copied, IfSome};
 ghost use Rattle.iff_form.specs.Chunk.{plains};
 ghost use Rattle.iff_form.specs.Form.{AreDistinct, form_size, offsets_from, payload_of};
 
@@ -47,9 +47,11 @@ impl<'a> Form<'a> {
         self.size
     }
 
-    /// The payload of the chunk with the id. None exactly where no chunk has it.
+    /// The payload of the chunk with the id, of fewer than 2^32 bytes. None exactly where no chunk
+    /// has it.
     pub fn find(&self, id: Id) -> Option<&'a [u8]>
-        ensures { option_copied result ≡ payload_of id self.now }
+        ensures found { option_copied result ≡ payload_of id self.now }
+        ensures short { IfSome result (λ payload. length payload.now < 2 ^ 32) }
     {
         for chunk in &self.chunks {
             if chunk.id == id {

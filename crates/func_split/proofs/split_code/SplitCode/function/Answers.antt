@@ -3,14 +3,14 @@ use Rattle.std.specs.BTreeMap.{get}
 use Rattle.std.specs.Ordering.{nat_cmp}
 use Rattle.std.proofs.lemmas.Option.{slice_get_past}
 use Rattle.op_table.specs.Instruction.{Instruction}
-use Rattle.func_split.specs.Functions.{Piece, SplitValue}
+use Rattle.func_split.specs.Functions.{IsSplit, Piece, SplitValue}
 use Rattle.func_split.specs.Marks.{marks_of, IsLabelAt}
-use Rattle.func_split.proofs.Methods.{cut, cut_read}
-use Rattle.func_split.proofs.Standing.{length-pieces_of}
+use Rattle.func_split.proofs.Methods.{cut, cut_read, splits}
+use Rattle.func_split.proofs.Standing.{length-pieces_of, stands_in}
 use Rattle.func_split.proofs.split_code.SplitCode.function.Goals as goal
 
-pub returns-in_err-extent : goal.returns-in_err-extent
-returns-in_err-extent c =
+pub returns-in_err-extent-clause-same : goal.returns-in_err-extent-clause-same
+returns-in_err-extent-clause-same c =
     let inside = c.self.inside in
     let past : length inside.extents.items ≤ c.args.i = omega (arith, c.in_err-extent.ensures.lookup.3, ap length c.deref.ensures.value) in
     c.from_residual.ensures
@@ -47,8 +47,8 @@ invariant_of-result c =
     let instrs : c.part.result.now ≡ (cut inside.instrs e end).instrs = c.part.ensures ∙ ap (λ (t : List Instruction). take (end - e.first) (drop e.first t)) c.as_slice-2.ensures in
     subst (λ (t : List Instruction). (label place : ℕ) → place < length t → (get nat_cmp inside.places label ≡ Some (e.first + place)) ↔ IsLabelAt (marks_of t) place label) (sym instrs) is.labels
 
-pub returns : goal.returns
-returns c =
+pub returns-clause-same : goal.returns-clause-same
+returns-clause-same c =
     let inside = c.self.inside in
     let found = c.in_ok-extent.ensures.lookup in
     let is = cut_read c.splitting_is_exact.ensures.accepted inside.labels inside.instrs inside.extents.items inside.places c.self.invariant c.deref.result.now c.as_slice.result.now c.args.i c.in_ok-extent.extent.now c.end_before-end.result c.deref.ensures.value found.3.0 found.1 c.as_slice.ensures.value c.end_before-end.ensures in
@@ -58,3 +58,9 @@ returns c =
     ap (λ (t : List Instruction). let f : Piece = record { first = e.first; instrs = t; entry = e.info + 1 - e.first; name = e.name; arity = e.arity } in Some f) instrs
     ∙ is.piece
     ∙ ap (λ (s : SplitValue). slice_get s.functions c.args.i) c.self.view_is
+
+pub returns-clause-stands : goal.returns-clause-stands
+returns-clause-stands c =
+    let inside = c.self.inside in
+    let split = splits c.splitting_is_exact.ensures.accepted inside.labels inside.instrs inside.extents.items inside.places c.self.invariant in
+    stands_in _ _ _ (subst (λ (s : SplitValue). IsSplit s.labels s.instrs s.functions) c.self.view_is split) c.args.i _ (sym (returns-clause-same c))
