@@ -14,7 +14,7 @@ use Rattle.reg_state.specs.Related.FrameRel.{both_absent, both_slots, not_known}
 use Rattle.reg_state.specs.Kinds.{KindBelow, joined_kind}
 use Rattle.reg_state.specs.States.{Known, IsBelow}
 use Rattle.reg_state.specs.Join.{IsLeastAbove, same_tag_kind, tagged_alike, are_alike, joined_slot, joined_slots, joined_frame, joined_number, joined}
-use Rattle.reg_state.proofs.Ordered.{slot_on_itself, reflexive, same, same_parts}
+use Rattle.reg_state.specs.Ordered.{slot_on_itself, reflexive, same, same_parts}
 
 kind_first : (a b : Kind) → KindBelow a (joined_kind a b)
 kind_first a b = grind arith

@@ -15,7 +15,7 @@ use Rattle.reg_state.specs.Related.FrameRel.{both_slots}
 use Rattle.reg_state.specs.Kinds.{kind_below, KindBelow}
 use Rattle.reg_state.specs.States.{slot_of, slots_of}
 use Rattle.reg_state.specs.Join.{tagged_alike, are_alike, joined_slot, joined_slots}
-use Rattle.reg_state.proofs.Ordered.{slot_on_itself}
+use Rattle.reg_state.specs.Ordered.{slot_on_itself}
 use Rattle.reg_state.proofs.Joins.{tagged, same_tag_is, alike_below}
 
 -- what holds of each place of two lists that begin with x and y holds of x and y

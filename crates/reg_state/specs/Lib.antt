@@ -3,3 +3,4 @@ pub mod Related
 pub mod Kinds
 pub mod States
 pub mod Join
+pub mod Ordered

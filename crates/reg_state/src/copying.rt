@@ -14,7 +14,8 @@ fn copy_items<T: Copy>(alloc: Global, items: &[T]) -> Result<ItemList<T>, NoMemo
     Ok(ItemList::from(copy))
 }
 
-fn copy_frame(alloc: Global, frame: &FrameState) -> Result<FrameState, NoMemory>
+/// A frame equal to `frame`. It is refused for want of memory alone.
+pub fn copy_frame(alloc: Global, frame: &FrameState) -> Result<FrameState, NoMemory>
     ensures { IfOk result (λ copy. copy ≡ frame.now) }
 {
     match frame {

@@ -50,8 +50,8 @@ pub(crate) fn joined_kind(a: Kind, b: Kind) -> Kind
     }
 }
 
-// The kind of register `i`.
-pub(crate) fn kind_at(kinds: &[Kind], i: usize) -> Kind
+/// The kind of register `i`, counted from 0. A register past the end of the list is `Unset`.
+pub fn kind_at(kinds: &[Kind], i: usize) -> Kind
     ensures { result ≡ x_of kinds.now i }
 {
     match kinds.get(i) {

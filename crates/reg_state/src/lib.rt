@@ -9,9 +9,9 @@ mod laws;
 mod order;
 mod state;
 
-pub use copying::copy_state;
+pub use copying::{copy_frame, copy_state};
 pub use join::join_into;
-pub use kind::{Kind, KindList};
+pub use kind::{Kind, KindList, kind_at};
 pub use laws::{joins_are_least, states_are_ordered};
 pub use order::below;
 pub use state::{FrameState, Slot, SlotList, State};

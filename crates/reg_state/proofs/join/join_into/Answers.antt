@@ -3,7 +3,7 @@ use Rattle.std.proofs.lemmas.Bool.{false≢true}
 use Rattle.reg_state.specs.declared.kind.Kind.{Kind}
 use Rattle.reg_state.specs.Kinds.{joined_kind}
 use Rattle.reg_state.specs.States.{Known, x_of, frame_of, store_of}
-use Rattle.reg_state.proofs.Ordered.{reflexive, transitive}
+use Rattle.reg_state.specs.Ordered.{reflexive, transitive}
 use Rattle.reg_state.proofs.Joins.{joined_below, parts_of_least}
 use Rattle.reg_state.proofs.join.join_into.Goals as goal
 

@@ -1,4 +1,4 @@
-use Rattle.reg_state.proofs.Ordered.{reflexive, transitive, same}
+use Rattle.reg_state.specs.Ordered.{reflexive, transitive, same}
 use Rattle.reg_state.proofs.laws.states_are_ordered.Goals as goal
 
 pub returns-clause-reflexive : goal.returns-clause-reflexive
