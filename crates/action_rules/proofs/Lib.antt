@@ -1,0 +1,4 @@
+pub mod Classes
+pub mod Passing
+pub mod Registers
+pub mod Slotwise

@@ -1,0 +1,9 @@
+pub mod Domain
+pub mod Needs
+pub mod Effects
+pub mod KindDomain
+pub mod Known
+pub mod Fitting
+pub mod Relating
+pub mod FittingKept
+pub mod Steady
