@@ -1,0 +1,5 @@
+pub mod Naming
+pub mod Ending
+pub mod Operands
+pub mod Faults
+pub mod Registers
