@@ -1,0 +1,10 @@
+pub mod Places
+pub mod Added
+pub mod Followed
+pub mod Checked
+pub mod Joined
+pub mod Arriving
+pub mod Entering
+pub mod Made
+pub mod Judged
+pub mod Widest

@@ -1,0 +1,17 @@
+//! How what is known of registers and the frame goes from place to place in one function.
+#![tactic(auto)]
+
+mod checking;
+mod edges;
+mod flow;
+mod fn_flow;
+mod making;
+mod refusal;
+
+pub use action_rules::Reason;
+pub use code_faults::{Fault, FaultList};
+pub use fn_flow::FnFlow;
+pub use refusal::FlowRefusal;
+
+#[cfg(test)]
+mod tests;
