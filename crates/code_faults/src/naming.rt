@@ -69,8 +69,8 @@ fn names_entries(m: &Module<'_>, role: Role, operand: &Operand) -> bool
     }
 }
 
-// Whether the module has what the operand names in its tables. What stands where any operand may is
-// not looked at.
+/// Whether the module has what the operand names in its tables. What stands where any operand may is
+/// not looked at.
 pub(crate) fn is_indexed(m: &Module<'_>, role: Role, operand: &Operand) -> bool
     ensures { result ≡ is_indexed m.now role operand.now }
 {
@@ -120,7 +120,7 @@ fn are_own(f: &Function<'_>, mut members: &[Plain]) -> bool
     true
 }
 
-// Whether the labels of the operand that are to be ones of the function stand in it.
+/// Whether the labels of the operand that are to be ones of the function stand in it.
 pub(crate) fn names_own(f: &Function<'_>, role: Role, operand: &Operand) -> bool
     ensures { result ≡ names_own f.now role operand.now }
 {
@@ -142,7 +142,7 @@ fn is_target(m: &Module<'_>, label: u32, arity: u64) -> bool
     }
 }
 
-// Whether a call with so many arguments finds a function, if the operand is one that is called.
+/// Whether a call with so many arguments finds a function, if the operand is one that is called.
 pub(crate) fn names_target(m: &Module<'_>, arity: u64, role: Role, operand: &Operand) -> bool
     ensures { result ≡ names_target m.now arity role operand.now }
 {

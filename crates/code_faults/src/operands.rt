@@ -1,6 +1,7 @@
 //! What is wrong with an instruction because of its opcode and its operands.
 
 ghost use Rattle.std.specs.Prelude.{◌≡◌, ◌<◌, length};
+ghost use Rattle.op_table.specs.Instruction.{IsInstruction};
 ghost use Rattle.code_faults.specs.Operands.{instruction_fault, operand_fault, operands_fault};
 
 use crate::naming::{is_indexed, names_own, names_target};
@@ -68,7 +69,8 @@ fn operands_fault(
 /// the call has is entered at the label.
 #[tactic(auto, unfolding(crate::specs::Operands::instruction_fault))]
 pub fn instruction_fault(m: &Module<'_>, f: &Function<'_>, instr: &Instr) -> Option<Reason>
-    ensures { result ≡ instruction_fault m.now f.now instr.now }
+    ensures fault { result ≡ instruction_fault m.now f.now instr.now }
+    ensures whole { IsInstruction instr.now }
 {
     let Some(row) = typed_row(instr.op()) else {
         return Some(Reason::Unsupported);

@@ -32,7 +32,7 @@ pub fn register_of(plain: &Plain) -> Option<Reg>
     }
 }
 
-// The register of an operand, or x0 where it is none.
+/// The register of an operand, or x0 where it is none.
 pub(crate) fn register_in(operand: Option<&Operand>) -> Reg
     ensures { result ≡ register_in (option_copied operand.entry) }
 {
@@ -42,7 +42,7 @@ pub(crate) fn register_in(operand: Option<&Operand>) -> Reg
     }
 }
 
-// Where the value of an operand is read: in its register, or in the instruction itself.
+/// Where the value of an operand is read: in its register, or in the instruction itself.
 pub(crate) fn source_of(plain: &Plain) -> Src
     ensures { result ≡ source_of plain.now }
 {
@@ -52,7 +52,7 @@ pub(crate) fn source_of(plain: &Plain) -> Src
     }
 }
 
-// Where the value of an operand is read, as `source_of` says. A list or no operand is a constant.
+/// Where the value of an operand is read, as `source_of` says. A list or no operand is a constant.
 pub(crate) fn source_in(operand: Option<&Operand>) -> Src
     ensures { result ≡ source_in (option_copied operand.entry) }
 {
@@ -72,7 +72,7 @@ pub fn number_in(operand: Option<&Operand>) -> u64
     }
 }
 
-// The slot of an operand, or 0 where it is none.
+/// The slot of an operand, or 0 where it is none.
 pub(crate) fn slot_in(operand: Option<&Operand>) -> u32
     ensures { result ≡ slot_in (option_copied operand.entry) }
 {
@@ -82,7 +82,7 @@ pub(crate) fn slot_in(operand: Option<&Operand>) -> u32
     }
 }
 
-// The label of an operand that holds no others, or 0 where it is none.
+/// The label of an operand that holds no others, or 0 where it is none.
 pub(crate) fn label_of(plain: &Plain) -> u32
     ensures { result ≡ label_of plain.now }
 {
@@ -128,7 +128,7 @@ fn amount_of(kind: u64, pairs: &[(u64, u64)]) -> u64
     }
 }
 
-// How many words a heap need asks for. A number alone is words.
+/// How many words a heap need asks for. A number alone is words.
 pub(crate) fn words_in(operand: Option<&Operand>) -> u64
     ensures { result ≡ words_in (option_copied operand.entry) }
 {
@@ -139,7 +139,7 @@ pub(crate) fn words_in(operand: Option<&Operand>) -> u64
     }
 }
 
-// How many funs a heap need asks for.
+/// How many funs a heap need asks for.
 pub(crate) fn funs_in(operand: Option<&Operand>) -> u64
     ensures { result ≡ funs_in (option_copied operand.entry) }
 {

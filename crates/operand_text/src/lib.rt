@@ -7,7 +7,7 @@ mod writing;
 
 pub use laws::{canonical_is_near_its_text, operand_texts_are_words, operands_invert};
 pub use reading::read_operand_text;
-pub use writing::put_operand;
+pub use writing::{put_operand, put_register};
 
 #[cfg(test)]
 mod tests;

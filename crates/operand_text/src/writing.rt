@@ -51,7 +51,8 @@ fn put_plain(out: &mut Bytes, plain: &Plain) -> Result<(), NoMemory>
     }
 }
 
-fn put_register(out: &mut Bytes, register: Reg) -> Result<(), NoMemory>
+/// Appends the text of a register to `out`: `x` or `y`, and its number in decimal.
+pub fn put_register(out: &mut Bytes, register: Reg) -> Result<(), NoMemory>
     ensures { OnOk result (out.new.items ≡ out.old.items ++ register_text register) }
 {
     match register {

@@ -25,6 +25,7 @@ pub enum Kind {
 /// Kinds in order, of the registers from x0 on. A register past the end is `Unset`.
 pub type KindList = ItemList<Kind>;
 
+/// Whether the first kind is the second or below it.
 pub(crate) fn kind_below(a: Kind, b: Kind) -> bool
     ensures { result ≡ kind_below a b }
 {
@@ -37,7 +38,7 @@ pub(crate) fn kind_below(a: Kind, b: Kind) -> bool
     }
 }
 
-// The least kind above both.
+/// The least kind above both.
 pub(crate) fn joined_kind(a: Kind, b: Kind) -> Kind
     ensures { result ≡ joined_kind a b }
 {
