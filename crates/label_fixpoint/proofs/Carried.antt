@@ -1,5 +1,5 @@
 -- How the search for the least typing goes on: from its start over each edge and each visit to its end.
-use Rattle.std.proofs.Common.{◌≡◌, ◌≢◌, ◌∙◌, ◌⊎◌, ℕ, zero, suc, ◌<◌, Bool, true, false, List, [], ◌∷◌, ◌++◌, Contains, Option, Some, None, length, get_or, replicate, refl, sym, ap, subst, inl, inr, length-set, get_or-set_same, get_or-set_other, arith}
+use Rattle.std.proofs.Common.{◌≡◌, ◌≢◌, ◌∙◌, ◌⊎◌, ℕ, zero, suc, ◌<◌, Bool, true, false, List, [], ◌∷◌, ◌++◌, Contains, Option, Some, None, length, get_or, replicate, refl, sym, ap, subst, inl, inr, length-set, get_or-set_same, get_or-set_other}
 use Rattle.std.proofs.lemmas.List.{length-replicate}
 use Rattle.std.specs.List.{AllZip}
 use Rattle.std.proofs.lemmas.Bool.{cases_eq}
@@ -7,6 +7,7 @@ use Rattle.std.proofs.lemmas.Option.{none-some, same_Some}
 use Rattle.std.proofs.lemmas.List.Elements.{Contains-get_or, Contains-push, Contains-push_cases, Contains-append_left, AllZip-get_or, length_all_zip}
 use Rattle.label_fixpoint.specs.declared.edge.Edge.{Edge}
 use Rattle.label_fixpoint.specs.Meaning.{Meaning, LeadsAbove, IsLawful}
+use Rattle.label_fixpoint.specs.Singles.{nothing_in, only_in}
 use Rattle.label_fixpoint.specs.Edges.{IsSameEdge, Appends}
 use Rattle.label_fixpoint.specs.Typing.{Typing, typing_of, HasAbove, IsLeast}
 use Rattle.label_fixpoint.specs.Progress.{Pending, Takes, Progress}
@@ -16,13 +17,6 @@ pub untyped_at : {S : Type 0} (n p : ℕ) → typing_of (replicate {A = Option S
 untyped_at zero p = refl
 untyped_at (suc n) zero = refl
 untyped_at (suc n) (suc p) = untyped_at n p
-
-pub nothing_in : {X : Type 0} {Goal : Type 0} (x : X) → Contains [] x → Goal
-nothing_in x held = let none = held.1 in absurd (omega (arith, none))
-
--- the only element
-pub only_in : {X : Type 0} (x y : X) → Contains (x ∷ []) y → x ≡ y
-only_in x y held = elim (Contains-push_cases [] x y held) [ inl none ↦ nothing_in y none | inr e ↦ e ]
 
 module _ (S : Type 0) (m : Meaning S) (law : IsLawful m) where
   -- an edge that was put has the meaning of a wanted one, and each wanted one was put

@@ -5,9 +5,10 @@ use Rattle.std.proofs.lemmas.List.Elements.{Contains-push}
 use Rattle.std.proofs.lemmas.List.Sums.{sum_by-cons, sum_by-set, sum_by-le, get_or-le-sum_by}
 use Rattle.label_fixpoint.specs.declared.edge.Edge.{Edge}
 use Rattle.label_fixpoint.specs.Meaning.{Meaning, IsLawful}
+use Rattle.label_fixpoint.specs.Singles.{nothing_in}
 use Rattle.label_fixpoint.specs.Typing.{typing_of, HasAbove}
 use Rattle.label_fixpoint.specs.Progress.{Pending, Takes, Progress, weight}
-use Rattle.label_fixpoint.proofs.Carried.{nothing_in}
+use Rattle.label_fixpoint.specs.RoundLaws.{weight_le}
 
 pub taken_size : (before after : List ℕ) (p : ℕ) → before ≡ after ++ p ∷ [] → length before ≡ length after + 1
 taken_size before after p taken = ap length taken ∙ length-append after (p ∷ [])
@@ -17,16 +18,12 @@ module _ (S : Type 0) (m : Meaning S) (law : IsLawful m) where
   untyped_sum zero = refl
   untyped_sum (suc n) = let first = sum_by-cons (weight m) None (replicate n None) in let rest = untyped_sum n in omega (arith, first, rest)
 
-  weight_le : (slot : Option S) → ((s : S) → slot ≡ Some s → m.IsFit s) → weight m slot ≤ m.height
-  weight_le None fits = omega arith
-  weight_le (Some s) fits = let low = law.rank_bound s (fits s refl) in omega (arith, low)
-
   pub sum_bound : (states : List (Option S)) (agenda : Pending) (edges : List (Edge S)) → Progress m states agenda edges → sum_by (weight m) states ≤ m.place_count * m.height
   sum_bound states agenda edges so =
       subst (λ (n : ℕ). sum_by (weight m) states ≤ n * m.height) so.size
       (sum_by-le (weight m) m.height states (λ p d inside.
       rw (get_or_default states p d None inside)
-      (weight_le (typing_of states p) (λ s is. so.fits p s (subst (λ (n : ℕ). p < n) so.size inside) is))))
+      (weight_le S m law (typing_of states p) (λ s is. so.fits p s (subst (λ (n : ℕ). p < n) so.size inside) is))))
 
   -- what a visit of a pending place counts
   pub visit_bound : (states : List (Option S)) (before after : Pending) (p start steps : ℕ) → Progress m states before [] → before.1 ≡ after.1 ++ p ∷ [] → steps + length before.1 ≤ start + sum_by (weight m) states

@@ -1,15 +1,16 @@
 -- The laws of the small flow for the tests.
-use Rattle.std.proofs.Common.{◌≡◌, ℕ, ◌<◌, ◌≤◌, Bool, true, false, ltb, List, [], Contains, length, slice_index, refl, subst, inl, inr, arith}
+use Rattle.std.proofs.Common.{◌≡◌, ℕ, ◌<◌, ◌≤◌, Bool, true, false, ltb, List, [], Contains, length, slice_index, refl, subst, arith}
 use Rattle.std.proofs.lemmas.Bool.{ltb-true}
-use Rattle.std.proofs.lemmas.List.Elements.{Contains-push, Contains-push_cases}
+use Rattle.std.proofs.lemmas.List.Elements.{Contains-push}
 use Rattle.label_fixpoint.specs.declared.edge.Edge.{Edge}
 use Rattle.label_fixpoint.specs.Meaning.{LeadsAbove, IsLawful}
+use Rattle.label_fixpoint.specs.Singles.{nothing_in, only_in}
 use Rattle.label_fixpoint.specs.Jumps.{edge_to, edge_within, edges_from, jumps_of}
 
 -- which edge there can be
 only : (within : Bool) (target state : ℕ) (e : Edge ℕ) → Contains (edge_within within target state) e → (within ≡ true) × (edge_to target state ≡ e)
-only true target state e held = elim (Contains-push_cases [] (edge_to target state) e held) [ inl none ↦ let k = none.1 in absurd (omega (arith, k)) | inr is ↦ (refl, is) ]
-only false target state e held = let k = held.1 in absurd (omega (arith, k))
+only true target state e held = (refl, only_in (edge_to target state) e held)
+only false target state e held = nothing_in e held
 
 leads : (numbers : List ℕ) (within : Bool) (target a b : ℕ) → a ≤ b → within ≡ true → LeadsAbove (jumps_of numbers) (edge_within within target b) target (edge_to target a).state
 leads numbers true target a b le is = (edge_to target b, Contains-push [] (edge_to target b), refl, omega (arith, le))

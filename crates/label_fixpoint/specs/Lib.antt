@@ -1,7 +1,9 @@
 pub mod Meaning
+pub mod Singles
 pub mod Edges
-pub mod Appending
 pub mod Typing
 pub mod Progress
 pub mod Jumps
 pub mod JumpLaws
+pub mod Rounds
+pub mod RoundLaws
