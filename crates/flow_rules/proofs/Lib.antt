@@ -8,3 +8,5 @@ pub mod Entering
 pub mod Made
 pub mod Judged
 pub mod Widest
+pub mod Told
+pub mod Opened

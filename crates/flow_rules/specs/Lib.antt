@@ -15,4 +15,5 @@ pub mod RankLaws
 pub mod Lawful
 pub mod Appended
 pub mod Reporting
+pub mod Reports
 pub mod AllPlans

@@ -62,7 +62,7 @@ fn caught(alloc: Global, frame: &FrameState) -> Result<State, NoMemory>
     })
 }
 
-// Does what comes first in a plan.
+/// Does what comes first in a plan.
 pub(crate) fn enter(alloc: Global, plan: &Plan, s: &mut State) -> Result<(), NoMemory>
     ensures { OnOk result (store_of s.new ≡ entered plan.now (store_of s.old)) }
 {
@@ -70,7 +70,7 @@ pub(crate) fn enter(alloc: Global, plan: &Plan, s: &mut State) -> Result<(), NoM
 }
 
 impl<'m> FnFlow<'m> {
-    // The plan of the instruction at a place.
+    /// The plan of the instruction at a place.
     pub(crate) fn plan(&self, place: usize) -> &Plan
         requires { place < length self.now.plans }
         ensures { slice_get self.now.plans place ≡ Some result.now }
@@ -78,7 +78,7 @@ impl<'m> FnFlow<'m> {
         &self.plans.as_slice()[place]
     }
 
-    // Whether there is an instruction behind the one at a place.
+    /// Whether there is an instruction behind the one at a place.
     pub(crate) fn has_next(&self, place: usize) -> bool
         requires { place < length self.now.plans }
         ensures { result ≡ has_next (body_of self.now) place }
@@ -86,7 +86,7 @@ impl<'m> FnFlow<'m> {
         place + 1 < self.plans.len()
     }
 
-    // The place of a label of the function, and how many places there are where it is none.
+    /// The place of a label of the function, and how many places there are where it is none.
     pub(crate) fn target(&self, label: u32) -> usize
         ensures { result ≡ (body_of self.now).place label }
     {
@@ -152,7 +152,7 @@ impl<'m> FnFlow<'m> {
         }
     }
 
-    // The edges by which a plan fails or raises from `s`.
+    /// The edges by which a plan fails or raises from `s`.
     pub(crate) fn leave(
         &self,
         alloc: Global,
@@ -170,8 +170,8 @@ impl<'m> FnFlow<'m> {
         Ok(())
     }
 
-    // Does what comes next in a plan, adds the edges to the labels of its exit, and says whether it
-    // goes on at the next place.
+    /// Does what comes next in a plan, adds the edges to the labels of its exit, and says whether it
+    /// goes on at the next place.
     pub(crate) fn go(
         &self,
         alloc: Global,
@@ -191,9 +191,9 @@ impl<'m> FnFlow<'m> {
         Ok(goes_on(&plan.exit))
     }
 
-    // Puts the edges that lead on from a place at the end of `edges`.
-    //
-    // It is refused for want of memory alone, and then has put the first of these edges there.
+    /// Puts the edges that lead on from a place at the end of `edges`.
+    ///
+    /// It is refused for want of memory alone, and then has put the first of these edges there.
     pub(crate) fn follow(
         &self,
         alloc: Global,

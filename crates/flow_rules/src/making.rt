@@ -48,8 +48,8 @@ struct Findings {
     faults: FaultList,
 }
 
-// A function leads to places of its own alone where nothing is wrong with its instructions.
-fn sound_functions_fit()
+/// A function leads to places of its own alone where nothing is wrong with its instructions.
+pub(crate) fn sound_functions_fit()
     ensures { (m : ModuleValue) (f : Piece) (plans : List Plan) → AllZip (HasPlan m f) f.instrs plans → f.entry < length f.instrs → body_fits (body_from f plans (handlers_of plans) (x_bound f) (y_bound plans)) ≡ true }
 {
     plans_keep_labels();
@@ -70,8 +70,6 @@ fn judge(
     ensures wrong { (why : Reason) → result ≡ Ok (Verdict.Wrong why) → instruction_fault m.now f.now instr.now ≡ Some why }
 {
     sound_instructions_have_plans();
-    // It has as many operands as its opcode asks.
-    let _ = instr.op();
     if let Some(reason) = instruction_fault(m, f, instr) {
         return Ok(Verdict::Wrong(reason));
     }
