@@ -5,7 +5,7 @@ use Rattle.std.specs.List.{AllZip}
 use Rattle.bk_codec.specs.Reading.{◌>>=◌}
 use Rattle.bk_port.specs.declared.reading.TheConstants.{MOST_BYTES}
 use Rattle.beam_cli.specs.declared.command.Command.{Command}
-use Rattle.beam_cli.specs.declared.command.Command.TheVariants.{Info, Show, Disasm, Asm, Strip, Canon, Cmp}
+use Rattle.beam_cli.specs.declared.command.Command.TheVariants.{Info, Show, Disasm, Asm, Strip, Canon, Cmp, Validate}
 use Rattle.beam_cli.specs.declared.loading.LoadedFile.{LoadedFile}
 use Rattle.beam_cli.specs.declared.output.Output.{Output}
 use Rattle.beam_cli.specs.declared.refusal.Refusal.{Refusal}
@@ -16,6 +16,7 @@ use Rattle.beam_cli.specs.Words.{Asked, file_count}
 use Rattle.beam_cli.specs.Files.{NamedFile, named_file, file_at, told, too_large, IsLoaded, IsFirst, IsFirstTooLarge}
 use Rattle.beam_cli.specs.Made.{Made, NamedRefusal, GivesOf, SaysRefusal, made_of_output, plain, prints, read_of}
 use Rattle.beam_cli.specs.Comparing.{NamedForm, cmp_output, compared, comparison_of, named_form}
+use Rattle.beam_cli.specs.Validating.{validate_output}
 use Rattle.beam_cli.specs.Answer.{Answer, answer_for, answered, asked_answer, made, output_of, stopped, info_output, disasm_output, asm_output, strip_output, canon_output}
 use Rattle.beam_cli.specs.Message.{line_about, refusal_text, too_large_line}
 use Rattle.beam_cli.specs.Showing.{show_output}
@@ -81,6 +82,8 @@ refused_is_named holds names files Cmp r loaded long h =
       | inl first ↦ named_as names _ r.name first (named_at holds names files 0 loaded (omega (arith, long)))
       | inr second ↦ named_as names _ r.name second (named_at holds names files 1 loaded (omega (arith, long)))
     ]
+refused_is_named holds names files Validate r loaded long h =
+    named_as names _ r.name (read_refused (file_at (map named_file files) 0) (validate_output (file_at (map named_file files) 0).bytes) r h) (named_at holds names files 0 loaded (omega (arith, long)))
 
 -- ---- the reason of a stop
 

@@ -31,13 +31,18 @@ use Rattle.beam_module.specs.declared.comparison.Compared.{Compared}
 use Rattle.beam_module.specs.Canonical.{canonical_file}
 use Rattle.beam_module.specs.Comparison.{Compares, comparison}
 use Rattle.beam_module.specs.File.{FileChunk, IsFile}
+use Rattle.beam_module.specs.Module.{IsModule, ModuleValue}
 use Rattle.beam_module.specs.Name.{IsModuleName, name_of}
+use Rattle.beam_module.specs.Opening.{module_of}
 use Rattle.beam_module.specs.Strip.{stripped_file}
 use Rattle.beam_module.specs.Reading.{file_of}
 use Rattle.listing_out.specs.Comments.{commented_listing}
 use Rattle.listing_out.specs.Listable.{IsListable}
 use Rattle.listing_out.specs.Listing.{IsListing}
 use Rattle.listing_in.specs.Reading.{listing_value}
+use Rattle.code_faults.specs.declared.fault.Fault.{Fault}
+use Rattle.flow_rules.specs.Reporting.{IsReport}
+use Rattle.flow_rules.specs.Reports.{report_of}
 use Rattle.beam_cli.specs.declared.refusal.Refusal.{Refusal}
 use Rattle.beam_cli.specs.declared.refusal.Refusal.TheVariants.{Form, Table, Side, Term as TermRefused}
 use Rattle.beam_cli.specs.declared.shown.Shown.{Shown}
@@ -49,7 +54,8 @@ use Rattle.beam_cli.specs.Answer.{asm_output, canon_output, disasm_output, info_
 use Rattle.beam_cli.specs.Comparing.{NamedForm, cmp_output, compared, comparison_of, name_at, named_form}
 use Rattle.beam_cli.specs.Files.{NamedFile}
 use Rattle.beam_cli.specs.Made.{NamedRefusal, read_of}
-use Rattle.beam_cli.specs.Printing.{HasChunk, HasNamedForm, IsExactOnTwo, IsNamedForm, PrintsAssembled, PrintsCanonical, PrintsDifference, PrintsInfo, PrintsListing, PrintsStripped, PrintsTable, ShowsEntries, ShowsPart, ShowsTable}
+use Rattle.beam_cli.specs.Printing.{HasChunk, HasNamedForm, IsExactOnTwo, IsNamedForm, PrintsAssembled, PrintsCanonical, PrintsDifference, PrintsInfo, PrintsListing, PrintsReport, PrintsStripped, PrintsTable, ShowsEntries, ShowsPart, ShowsTable}
+use Rattle.beam_cli.specs.Validating.{judged, validate_output}
 
 -- ---- an answer is a value exactly where something holds of it
 
@@ -157,6 +163,21 @@ canon_printed files =
     let same : (bytes : List ℕ) → IsBytes bytes → Same (canon_output bytes) (λ text. PrintsCanonical text bytes) =
     λ bytes fits. same_then (same_read module_refusal files bytes fits) (λ value is. same_made canonical_file value) in
     exact_on_bytes (λ bytes text fits. (same bytes fits).found text) (λ bytes text fits. (same bytes fits).again text)
+
+-- ---- reports
+
+module _ (one : (m : ModuleValue) (a b : List Fault) → IsReport m a → IsReport m b → a ≡ b) (have : (m : ModuleValue) (bytes : List ℕ) → IsModule m bytes → IsReport m (report_of m)) where
+  same_judged : (value : ModuleValue) (bytes : List ℕ) → IsModule value bytes → Same (Ok (judged value (report_of value))) (λ m. (report : List Fault) × IsReport value report × (m ≡ judged value report))
+  same_judged value bytes is = record {
+    found = λ m h. (report_of value, have value bytes is, (same_made (judged value) (report_of value)).found m h);
+    again = λ m has. (same_made (judged value) (report_of value)).again m (has.2 ∙ ap (judged value) (one value has.0 (report_of value) has.1 (have value bytes is)));
+  }
+
+  pub validate_printed : IsExact module_of IsModule → IsExact validate_output PrintsReport
+  validate_printed modules =
+      let same : (bytes : List ℕ) → IsBytes bytes → Same (validate_output bytes) (λ m. PrintsReport m bytes) =
+      λ bytes fits. same_then (same_read module_refusal modules bytes fits) (λ value is. same_judged value bytes is) in
+      exact_on_bytes (λ bytes m fits. (same bytes fits).found m) (λ bytes m fits. (same bytes fits).again m)
 
 -- a text is read as a listing exactly where it is one
 module _ (listings : (text : List ℕ) (v : List FileChunk) → (listing_value text ≡ Ok v) ↔ (IsListable v × IsListing v text)) where

@@ -6,7 +6,7 @@ use Rattle.listing_out.specs.Comments.{commented_listing}
 use Rattle.beam_module.specs.Strip.{stripped_file}
 use Rattle.beam_module.specs.Canonical.{canonical_file}
 use Rattle.beam_cli.specs.declared.command.Command.{Command}
-use Rattle.beam_cli.specs.declared.command.Command.TheVariants.{Info, Show, Disasm, Asm, Strip, Canon, Cmp}
+use Rattle.beam_cli.specs.declared.command.Command.TheVariants.{Info, Show, Disasm, Asm, Strip, Canon, Cmp, Validate}
 use Rattle.beam_cli.specs.declared.refusal.Refusal.{Refusal}
 use Rattle.beam_cli.specs.declared.status.Status.{Status}
 use Rattle.beam_cli.specs.declared.status.Status.TheVariants.{Done, Refused, Usage, Grammar, TooLarge}
@@ -15,8 +15,9 @@ use Rattle.beam_cli.specs.Files.{NamedFile, file_at, told, too_large}
 use Rattle.beam_cli.specs.Message.{line_about, usage_line, too_large_line, refusal_text}
 use Rattle.beam_cli.specs.Needs.{chunks_of, listed_value, value_of_file}
 use Rattle.beam_cli.specs.Showing.{show_output}
-use Rattle.beam_cli.specs.Made.{Made, NamedRefusal, prints}
+use Rattle.beam_cli.specs.Made.{Made, NamedRefusal, checks, prints}
 use Rattle.beam_cli.specs.Comparing.{cmp_output}
+use Rattle.beam_cli.specs.Validating.{validate_output}
 
 -- what is written to the output, the message, and the status
 pub record Answer : Type 0 where
@@ -68,6 +69,7 @@ output_of Asm files = prints asm_output (file_at files 0)
 output_of Strip files = prints strip_output (file_at files 0)
 output_of Canon files = prints canon_output (file_at files 0)
 output_of Cmp files = cmp_output (file_at files 0) (file_at files 1)
+output_of Validate files = checks validate_output (file_at files 0)
 
 -- the first file that has too many bytes comes before every refusal
 abbrev pub unless_too_large : Option (List ℕ) → Answer → Answer

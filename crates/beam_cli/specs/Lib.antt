@@ -8,6 +8,7 @@ pub mod Needs
 pub mod Made
 pub mod Showing
 pub mod Comparing
+pub mod Validating
 pub mod Answer
 pub mod Outcome
 pub mod Stopping

@@ -37,6 +37,10 @@ print_read file read = read_of file read >>= plain
 abbrev pub prints : (List ℕ → Result (List ℕ) Refusal) → NamedFile → Result Made NamedRefusal
 prints output file = print_read file (output file.bytes)
 
+-- the output of a command that reads one file and checks something
+abbrev pub checks : (List ℕ → Result Made Refusal) → NamedFile → Result Made NamedRefusal
+checks output file = read_of file (output file.bytes)
+
 -- what stops a command on the file with this name: want of memory, or the reason to refuse the file
 abbrev pub IsStopFor : Bor (List ℕ) → Refusal → Stop → Type 0
 IsStopFor name e stop = ((e ≡ refusals.NoMemory) × (stop ≡ NoMemory)) ⊎ (IsReason e × (stop ≡ Grammar name e))

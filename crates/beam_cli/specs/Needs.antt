@@ -6,6 +6,8 @@ use Rattle.iff_form.specs.Chunk.{PlainChunk}
 use Rattle.iff_form.specs.Form.{payload_of}
 use Rattle.iff_form.specs.Reading.{form_of}
 use Rattle.beam_module.specs.File.{FileChunk}
+use Rattle.beam_module.specs.Module.{ModuleValue}
+use Rattle.beam_module.specs.Opening.{module_of}
 use Rattle.beam_module.specs.Reading.{file_of}
 use Rattle.listing_in.specs.Reading.{listing_value}
 use Rattle.beam_cli.specs.declared.refusal.Refusal.{Refusal}
@@ -31,6 +33,10 @@ part_at why read id chunks = payload_at id chunks >>= λ payload. refused_as why
 -- the value of the file: its form, and the code where there is a chunk for it
 abbrev pub value_of_file : List ℕ → Result (List FileChunk) Refusal
 value_of_file bytes = refused_as module_refusal (file_of bytes)
+
+-- the module that the file is
+abbrev pub module_of_file : List ℕ → Result ModuleValue Refusal
+module_of_file bytes = refused_as module_refusal (module_of bytes)
 
 -- the value of the file that a text lists
 abbrev pub listed_value : List ℕ → Result (List FileChunk) Refusal

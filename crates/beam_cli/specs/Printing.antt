@@ -15,6 +15,7 @@ use Rattle.ext_term.specs.Spelling.{SpellsTermFile}
 use Rattle.ext_term.specs.Text.{term_text}
 use Rattle.beam_module.specs.File.{FileChunk, IsFile}
 use Rattle.beam_module.specs.Canonical.{canonical_file}
+use Rattle.beam_module.specs.Module.{IsModule, ModuleValue}
 use Rattle.beam_module.specs.Strip.{stripped_file}
 use Rattle.beam_module.specs.Name.{IsModuleName}
 use Rattle.beam_module.specs.Comparison.{Compares}
@@ -22,6 +23,8 @@ use Rattle.beam_module.specs.declared.comparison.Compared.{Compared}
 use Rattle.listing_out.specs.Comments.{commented_listing}
 use Rattle.listing_out.specs.Listable.{IsListable}
 use Rattle.listing_out.specs.Listing.{IsListing}
+use Rattle.code_faults.specs.declared.fault.Fault.{Fault}
+use Rattle.flow_rules.specs.Reporting.{IsReport}
 use Rattle.beam_cli.specs.declared.shown.Shown.{Shown}
 use Rattle.beam_cli.specs.declared.shown.Shown.TheVariants as shown
 use Rattle.beam_cli.specs.declared.refusal.Refusal.{Refusal}
@@ -29,6 +32,7 @@ use Rattle.beam_cli.specs.Files.{NamedFile}
 use Rattle.beam_cli.specs.Made.{Made, NamedRefusal}
 use Rattle.beam_cli.specs.Comparing.{NamedForm, compared}
 use Rattle.beam_cli.specs.Showing.{id_of}
+use Rattle.beam_cli.specs.Validating.{judged}
 
 -- the chunk with this id is there, and its payload is spelled for the value
 pub record HasChunk {A : Type 0} (id : List ℕ) (Spells : A → List ℕ → Type 0) (chunks : List PlainChunk) (x : A) : Type 0 where
@@ -84,6 +88,10 @@ PrintsStripped text bytes = (chunks : List PlainChunk) × IsForm chunks bytes ×
 -- `canon` prints the canonical file of the file's value
 abbrev pub PrintsCanonical : List ℕ → List ℕ → Type 0
 PrintsCanonical text bytes = (value : List FileChunk) × IsFile value bytes × (text ≡ canonical_file value)
+
+-- `validate` prints the report of the module that the file is, and finds something where the report has faults
+abbrev pub PrintsReport : Made → List ℕ → Type 0
+PrintsReport m bytes = (value : ModuleValue) × IsModule value bytes × ((report : List Fault) × IsReport value report × (m ≡ judged value report))
 
 -- ---- two files
 

@@ -2,7 +2,7 @@
 use Rattle.std.specs.Prelude.{ℕ, Bool, false, not, ◌==◌, ◌&&◌, ◌||◌, List, [], ◌∷◌, length, codes, bytes_eq, Option, Some, None, option_map, if◌then◌else◌}
 use Rattle.std.specs.List.{list_all}
 use Rattle.beam_cli.specs.declared.command.Command.{Command}
-use Rattle.beam_cli.specs.declared.command.Command.TheVariants.{Info, Show, Disasm, Asm, Strip, Canon, Cmp}
+use Rattle.beam_cli.specs.declared.command.Command.TheVariants.{Info, Show, Disasm, Asm, Strip, Canon, Cmp, Validate}
 use Rattle.beam_cli.specs.declared.shown.Shown.{Shown}
 use Rattle.beam_cli.specs.declared.shown.Shown.TheVariants.{Atoms, Imports, Exports, Locals, Funs, Literals, Lines, Attributes, Compile}
 
@@ -43,6 +43,7 @@ command_by word =
     else if bytes_eq word (codes "asm") then Some Asm
     else if bytes_eq word (codes "strip") then Some Strip
     else if bytes_eq word (codes "canon") then Some Canon
+    else if bytes_eq word (codes "validate") then Some Validate
     else None
 
 -- a command on files, where each of the words names one

@@ -25,6 +25,8 @@ pub enum Command {
     Canon,
     /// Tells what differs between two modules.
     Cmp,
+    /// Judges the code of a module.
+    Validate,
 }
 
 /// A command, on the files with these names in the order of the words.
@@ -101,6 +103,8 @@ fn command_by(word: &Text) -> Option<Command>
         Some(Command::Strip)
     } else if word == b"canon".as_slice() {
         Some(Command::Canon)
+    } else if word == b"validate".as_slice() {
+        Some(Command::Validate)
     } else {
         None
     }

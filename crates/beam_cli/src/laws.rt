@@ -13,7 +13,8 @@ ghost use Rattle.beam_cli.specs.declared.shown.Shown.{Shown};
 ghost use Rattle.beam_cli.specs.Answer.{asm_output, canon_output, disasm_output, info_output, strip_output};
 ghost use Rattle.beam_cli.specs.Comparing.{cmp_output};
 ghost use Rattle.beam_cli.specs.Showing.{show_output};
-ghost use Rattle.beam_cli.specs.Printing.{HasNamedForm, IsExactOnTwo, PrintsAssembled, PrintsCanonical, PrintsDifference, PrintsInfo, PrintsListing, PrintsStripped, PrintsTable};
+ghost use Rattle.beam_cli.specs.Printing.{HasNamedForm, IsExactOnTwo, PrintsAssembled, PrintsCanonical, PrintsDifference, PrintsInfo, PrintsListing, PrintsReport, PrintsStripped, PrintsTable};
+ghost use Rattle.beam_cli.specs.Validating.{validate_output};
 
 /// `info` prints the ids and sizes of a form, and refuses every file that is none.
 pub fn info_is_exact()
@@ -87,4 +88,13 @@ pub fn cmp_is_exact()
     beam_module::names_are_exact();
     beam_module::comparison_tells_what_differs();
     beam_module::one_comparison();
+}
+
+/// `validate` prints the report of a module, and refuses every file that is none.
+pub fn validate_is_exact()
+    ensures { IsExact validate_output PrintsReport }
+{
+    beam_module::opening_is_exact();
+    flow_rules::one_report();
+    flow_rules::modules_have_reports();
 }

@@ -17,11 +17,12 @@ mod showing;
 mod shown;
 mod status;
 mod stop;
+mod validating;
 
 pub use crate::command::{Command, Request, request_from};
 pub use crate::laws::{
     asm_is_exact, canon_is_exact, cmp_is_exact, disasm_is_exact, info_is_exact,
-    listings_are_assembled, show_is_exact, strip_is_exact,
+    listings_are_assembled, show_is_exact, strip_is_exact, validate_is_exact,
 };
 pub use crate::refusal::Refusal;
 pub use crate::running::run;
@@ -42,6 +43,8 @@ mod listing_tests;
 mod module_payloads;
 #[cfg(test)]
 mod tests;
+#[cfg(test)]
+mod validating_tests;
 #[cfg(test)]
 mod writing_tests;
 

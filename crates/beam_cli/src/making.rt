@@ -9,7 +9,7 @@ ghost use Rattle.beam_cli.specs.Words.{file_count};
 ghost use Rattle.beam_cli.specs.Asking.{asked};
 ghost use Rattle.beam_cli.specs.Files.{IsFirst, named_file};
 ghost use Rattle.beam_cli.specs.declared.refusal.Refusal.{Refusal};
-ghost use Rattle.beam_cli.specs.Made.{GivesOf, made_of_output, print_read};
+ghost use Rattle.beam_cli.specs.Made.{GivesOf, Made, made_of_output, print_read, read_of};
 ghost use Rattle.beam_cli.specs.Answer.{made, asm_output, info_output, disasm_output, strip_output, canon_output, output_of, asked_answer};
 ghost use Rattle.beam_cli.specs.Outcome.{SomeLeft};
 ghost use Rattle.beam_cli.specs.Reasons.{IsRefusal};
@@ -23,6 +23,7 @@ use crate::output::Output;
 use crate::refusal::Refusal;
 use crate::showing::show_text;
 use crate::stop::Stop;
+use crate::validating::validated;
 use beam_module::{canon, strip};
 use bk_base::Bytes;
 use bk_port::Host;
@@ -88,6 +89,18 @@ fn printed<'a>(file: &LoadedFile<'a>, text: Result<Bytes, Refusal>) -> Result<Ou
     }
 }
 
+// The output of a command that reads one file and checks something.
+fn checked<'a>(file: &LoadedFile<'a>, output: Result<Output, Refusal>) -> Result<Output, Stop<'a>>
+    requires { IfErr output IsRefusal }
+    ensures { (read : Result Made Refusal) → GivesAll Refusal.NoMemory made_of_output output read
+        → GivesOf made_of_output result (read_of (named_file file.now) read) }
+{
+    match output {
+        Ok(output) => Ok(output),
+        Err(refusal) => Err(Stop::of_file(file.name, refusal)),
+    }
+}
+
 // The output of a command for its files. Each file is refused before the next is looked at.
 fn output_of<'a>(
     alloc: Global,
@@ -109,6 +122,7 @@ fn output_of<'a>(
         Command::Strip => printed(&files[0], stripped_of(alloc, files[0].bytes.as_slice())),
         Command::Canon => printed(&files[0], canon_of(alloc, files[0].bytes.as_slice())),
         Command::Cmp => compared(alloc, &files[0], &files[1]),
+        Command::Validate => checked(&files[0], validated(alloc, files[0].bytes.as_slice())),
     }
 }
 

@@ -5,12 +5,12 @@ ghost use Rattle.bk_codec.specs.Reading.{GivesAll};
 ghost use Rattle.bk_port.specs.declared.reading.TheConstants.{MOST_BYTES};
 ghost use Rattle.beam_module.specs.Canonical.{IsWritable};
 ghost use Rattle.beam_cli.specs.Comparing.{name_at};
-ghost use Rattle.beam_cli.specs.Needs.{chunks_of, listed_value, payload_at, value_of_file};
+ghost use Rattle.beam_cli.specs.Needs.{chunks_of, listed_value, module_of_file, payload_at, value_of_file};
 ghost use Rattle.beam_cli.specs.Reasons.{IsRefusal};
 ghost use Rattle.beam_cli.specs.Showing.{atoms_at};
 
 use crate::refusal::Refusal;
-use beam_module::{FileVal, module_name, read_file};
+use beam_module::{FileVal, Module, module_name, open_module, read_file};
 use bk_base::Text;
 use iff_form::{Form, Id, read_form};
 use index_tables::{Atoms, read_atoms};
@@ -57,6 +57,17 @@ pub fn value_of_file(alloc: Global, bytes: &[u8]) -> Result<FileVal, Refusal>
 {
     match read_file(alloc, bytes) {
         Ok(value) => Ok(value),
+        Err(refusal) => Err(Refusal::of_module(refusal)),
+    }
+}
+
+/// The module that the bytes are.
+pub fn module_of_file<'a>(alloc: Global, bytes: &'a [u8]) -> Result<Module<'a>, Refusal>
+    ensures module { GivesAll Refusal.NoMemory (λ m. m) result (module_of_file bytes.now) }
+    ensures kind { IfErr result IsRefusal }
+{
+    match open_module(alloc, bytes) {
+        Ok(module) => Ok(module),
         Err(refusal) => Err(Refusal::of_module(refusal)),
     }
 }

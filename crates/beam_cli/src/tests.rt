@@ -500,6 +500,15 @@ fn code_is_listed_or_refused(rt: HostRuntime) -> Result<(), Fail> {
     )
 }
 
+#[test]
+fn code_that_is_not_judged_is_listed(rt: HostRuntime) -> Result<(), Fail> {
+    let code =
+        b"\0\0\0\x10\0\0\0\0\0\0\0\xb6\0\0\0\x03\0\0\0\x01\x01\x10\x02\x12\x22\0\x01 ^@\x02\x03\x13\x03";
+    let listing =
+        "beam 1\ncode 182 3 1 -\n  label u1\n  func_info a1 a2 u0\n  label u2\n  fclearerror\n  move a0 x0\n  return\n  int_code_end\n";
+    lists(&rt, code, 0, listing, "")
+}
+
 // A payload of code whose one instruction is `move` with these bytes behind its opcode.
 pub(crate) fn moving(alloc: Global, operands: &[u8]) -> Result<Vec<u8>, Fail> {
     let mut code = Vec::new(alloc);

@@ -1,0 +1,32 @@
+//! The output of `validate`.
+
+ghost use Rattle.std.specs.Prelude.{IfErr};
+ghost use Rattle.bk_codec.specs.Reading.{GivesAll};
+ghost use Rattle.beam_cli.specs.Made.{made_of_output};
+ghost use Rattle.beam_cli.specs.Reasons.{IsRefusal};
+ghost use Rattle.beam_cli.specs.Validating.{validate_output};
+
+use crate::needs::module_of_file;
+use crate::output::Output;
+use crate::refusal::Refusal;
+use bk_base::Steps;
+use std::alloc::Global;
+use validator::{report_text, validate};
+
+// The ledger of the one count of steps.
+#[derive(Drop)]
+struct Visits;
+
+/// What is wrong with the module that the bytes are, by the text of its report.
+pub fn validated(alloc: Global, bytes: &[u8]) -> Result<Output, Refusal>
+    ensures output { GivesAll Refusal.NoMemory made_of_output result (validate_output bytes.now) }
+    ensures kind { IfErr result IsRefusal }
+{
+    let module = module_of_file(alloc, bytes)?;
+    let mut steps = Steps::start(Visits);
+    let report = validate(alloc, &module, &mut steps)?;
+    Ok(Output {
+        text: report_text(alloc, &module, &report)?,
+        found: !report.is_empty(),
+    })
+}
