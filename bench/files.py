@@ -40,13 +40,13 @@ def members(*of):
     return bytes([LIST]) + number(U, len(of)) + b"".join(of)
 
 
-def head(n, label):
+def head(n, label, arity=2):
     """A label, a line and the head of a function."""
     atom = n % 300 + 1
     return b"".join((
         b"\x01" + number(U, label),                                            # label
         b"\x99" + number(U, n % 2000),                                         # line
-        b"\x02" + number(A, atom) + number(A, atom + 1) + number(U, 2),        # func_info
+        b"\x02" + number(A, atom) + number(A, atom + 1) + number(U, arity),    # func_info
     ))
 
 
@@ -78,6 +78,18 @@ def function(n):
     """A function of mixed instructions, whose labels are those behind the ones of the function before."""
     label = 2 * n + 1
     return head(n, label) + b"\x01" + number(U, label + 1) + body(n, label + 1)
+
+
+def judged(n, instructions):
+    """A function of so many instructions with calls, tests and a loop, with which nothing is wrong."""
+    own, entry, loop = (3 * n + k for k in (1, 2, 3))
+    label = lambda number_of: b"\x01" + number(U, number_of)
+    move = b"\x40" + number(Y, 0) + number(X, 0)
+    start = head(n, own, 1) + label(entry) + b"\x0c" + number(U, 1) + number(U, 1) + b"\x40" + number(X, 0) + number(Y, 0) + label(loop)
+    part = b"\x2b" + number(F, loop) + number(X, 0) + number(Y, 0) + move + b"\x04" + number(U, 1) + number(F, entry)  # is_eq_exact, move, call
+    end = b"\x34" + number(F, loop) + number(X, 0) + b"\x12" + number(U, 1) + b"\x13"                          # is_nil, deallocate, return
+    parts, rest = divmod(instructions - 10, 3)
+    return start + part * parts + move * rest + end
 
 
 def names(atoms, imports):
@@ -114,3 +126,8 @@ def functions(size):
     """The payload of a chunk of code with so many bytes of functions."""
     all = up_to(size, function)
     return code(b"".join(all), len(all), 2 * len(all) + 1)
+
+
+def judged_code(count, instructions):
+    """The payload of a chunk of code with so many functions of so many instructions, with which nothing is wrong."""
+    return code(b"".join(judged(n, instructions) for n in range(count)), count, 3 * count + 1)
