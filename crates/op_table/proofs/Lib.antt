@@ -5,6 +5,7 @@ pub mod Collected
 pub mod Fitting
 pub mod Of_rows
 pub mod Leaving
+pub mod Going
 pub mod Tagless
 pub mod Labels_kept
 pub mod Named_registers

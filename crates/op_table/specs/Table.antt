@@ -221,6 +221,11 @@ table =
 abbrev pub row_with : ℕ → Option Row
 row_with op = find (λ r. r.op == op) table
 
+-- what the opcode of a row is called, which every instruction has
+abbrev pub row_name : Option Row → List ℕ
+row_name (Some r) = r.name
+row_name None = []
+
 -- the row of this name
 abbrev pub row_named : List ℕ → Option Row
 row_named name = find (λ r. bytes_eq r.name name) table

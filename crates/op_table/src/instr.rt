@@ -1,8 +1,9 @@
 //! Instructions.
 
 ghost use Rattle.std.specs.Prelude.{◌≡◌, Some, length};
-ghost use Rattle.op_table.specs.Table.{arity_of};
+ghost use Rattle.op_table.specs.Table.{arity_of, row_name, row_with};
 
+use crate::row::op_row;
 use crate::short_list::ShortList;
 use compact_term::Operand;
 use std::marker::Model;
@@ -44,6 +45,13 @@ impl Instr {
         ensures arity { arity_of result ≡ Some (length self.now.operands) }
     {
         self.op
+    }
+
+    /// The name of the opcode, as it is listed.
+    pub fn name(&self) -> &'static str
+        ensures same { result.now ≡ row_name (row_with self.now.op) }
+    {
+        op_row(self.op).unwrap().name
     }
 
     /// The operands.

@@ -24,7 +24,7 @@ pub use laws::{
 };
 pub use operand_parts::{label_in, members_in, number_in, operand_at, register_of};
 pub use plan_laws::{
-    plans_are_of_rows, plans_keep_labels, plans_leave_by_rules, plans_tag_first,
+    plans_are_of_rows, plans_have_a_way, plans_keep_labels, plans_leave_by_rules, plans_tag_first,
     plans_write_named_registers,
 };
 pub use planning::{plan, plan_by, typed_row};

@@ -1,9 +1,10 @@
 //! Laws over the plans of all instructions.
 
-ghost use Rattle.std.specs.Prelude.{◌≡◌, [], ◌++◌, ℕ, Bool, Ok, true};
+ghost use Rattle.std.specs.Prelude.{◌≡◌, ◌≢◌, [], ◌++◌, ℕ, Bool, Ok, true, false};
 ghost use Rattle.std.specs.List.{list_all};
 ghost use Rattle.compact_term.specs.declared.operand.Reg.{Reg};
 ghost use Rattle.compact_term.specs.declared.operand.Reg.TheVariants as regs;
+ghost use Rattle.op_table.specs.declared.plans.Exit.TheVariants as exits;
 ghost use Rattle.op_table.specs.declared.plans.Plan.{Plan};
 ghost use Rattle.op_table.specs.Instruction.{Instruction, IsInstruction};
 ghost use Rattle.op_table.specs.Table.{roles_of};
@@ -20,6 +21,12 @@ pub fn plans_are_of_rows()
 #[tactic(auto, using(crate::proofs::Leaving::plans_leave))]
 pub fn plans_leave_by_rules()
     ensures { (i : Instruction) (ends : Bool) (p : Plan) → plan_of i ends ≡ Ok p → LeavesBy i p.exit p }
+{}
+
+/// A plan that goes on at labels has one of them, or it can fail or raise.
+#[tactic(auto, using(crate::proofs::Going::plans_go))]
+pub fn plans_have_a_way()
+    ensures { (i : Instruction) (ends : Bool) (p : Plan) → IsInstruction i → plan_of i ends ≡ Ok p → p.exit ≡ exits.Labels [] → p.raises ≡ false → p.fails ≢ [] }
 {}
 
 /// Handlers are put in by what comes first.

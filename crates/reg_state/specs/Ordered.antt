@@ -1,10 +1,10 @@
 -- The order of states is a partial order.
 use Rattle.std.proofs.Common.{◌≡◌, ℕ, List, [], ◌∷◌, refl, ap, inl, arith}
 use Rattle.reg_state.specs.declared.kind.Kind.{Kind}
-use Rattle.reg_state.specs.Store.{SlotOf, FrameOf}
+use Rattle.reg_state.specs.Store.{SlotOf, FrameOf, Store}
 use Rattle.reg_state.specs.Store.SlotOf.{Holds, Tagged}
 use Rattle.reg_state.specs.Store.FrameOf.{Absent, Slots, Unknown}
-use Rattle.reg_state.specs.Related.{SlotRel, SlotsRel, FrameRel, Reserved}
+use Rattle.reg_state.specs.Related.{SlotRel, SlotsRel, FrameRel, Reserved, StoreRel}
 use Rattle.reg_state.specs.Related.SlotRel.{both_hold, both_tagged}
 use Rattle.reg_state.specs.Related.SlotsRel.{none, more}
 use Rattle.reg_state.specs.Related.FrameRel.{both_absent, both_slots, not_known}
@@ -41,31 +41,36 @@ reflexive s = record {
   funs = inl refl;
 }
 
-slot_through : {s t u : SlotOf Kind} → SlotRel KindBelow s t → SlotRel KindBelow t u → SlotRel KindBelow s u
-slot_through (both_hold {a = a} {b = b} p) (both_hold {b = c} q) = both_hold (kind_through a b c p q)
-slot_through (both_tagged label kind) (both_tagged other same) = both_tagged label kind
-
-slots_through : {ss ts us : List (SlotOf Kind)} → SlotsRel KindBelow ss ts → SlotsRel KindBelow ts us → SlotsRel KindBelow ss us
-slots_through none none = none
-slots_through (more p ps) (more q qs) = more (slot_through p q) (slots_through ps qs)
-
-frame_through : {f g h : FrameOf Kind (Unit {0})} → FrameRel KindBelow f g → FrameRel KindBelow g h → FrameRel KindBelow f h
-frame_through both_absent both_absent = both_absent
-frame_through both_absent (not_known _ why) = not_known Absent why
-frame_through (both_slots ps) (both_slots qs) = both_slots (slots_through ps qs)
-frame_through (both_slots {ss = ss} ps) (not_known _ why) = not_known (Slots ss) why
-frame_through (not_known f _) (not_known _ why) = not_known f why
-
 number_through : (a b c : ℕ) → Reserved a b → Reserved b c → Reserved a c
 number_through a b c p q = grind arith
 
+-- what is related to what is related to a third, where the contents of the first and the third are related then
+module _ {A B D : Type 0} {R : A → B → Type 0} {S : B → D → Type 0} {P : A → D → Type 0} (through : (a : A) (b : B) (d : D) → R a b → S b d → P a d) where
+  slot_through : {s : SlotOf A} {t : SlotOf B} {u : SlotOf D} → SlotRel R s t → SlotRel S t u → SlotRel P s u
+  slot_through (both_hold {a = a} {b = b} p) (both_hold {b = d} q) = both_hold (through a b d p q)
+  slot_through (both_tagged label kind) (both_tagged other same) = both_tagged label kind
+
+  slots_through : {ss : List (SlotOf A)} {ts : List (SlotOf B)} {us : List (SlotOf D)} → SlotsRel R ss ts → SlotsRel S ts us → SlotsRel P ss us
+  slots_through none none = none
+  slots_through (more p ps) (more q qs) = more (slot_through p q) (slots_through ps qs)
+
+  frame_through : {C E F : Type 0} {f : FrameOf A C} {g : FrameOf B E} {h : FrameOf D F} → FrameRel R f g → FrameRel S g h → FrameRel P f h
+  frame_through both_absent both_absent = both_absent
+  frame_through both_absent (not_known _ why) = not_known Absent why
+  frame_through (both_slots ps) (both_slots qs) = both_slots (slots_through ps qs)
+  frame_through (both_slots {ss = ss} ps) (not_known _ why) = not_known (Slots ss) why
+  frame_through (not_known f _) (not_known _ why) = not_known f why
+
+  pub stores_through : {C E F : Type 0} (s : Store A C) (t : Store B E) (u : Store D F) → StoreRel R s t → StoreRel S t u → StoreRel P s u
+  stores_through s t u below above = record {
+    x = λ i. through (s.x i) (t.x i) (u.x i) (below.x i) (above.x i);
+    frame = frame_through below.frame above.frame;
+    words = number_through s.words t.words u.words below.words above.words;
+    funs = number_through s.funs t.funs u.funs below.funs above.funs;
+  }
+
 pub transitive : (s t u : Known) → IsBelow s t → IsBelow t u → IsBelow s u
-transitive s t u below above = record {
-  x = λ i. kind_through (s.x i) (t.x i) (u.x i) (below.x i) (above.x i);
-  frame = frame_through below.frame above.frame;
-  words = number_through s.words t.words u.words below.words above.words;
-  funs = number_through s.funs t.funs u.funs below.funs above.funs;
-}
+transitive s t u below above = stores_through kind_through s t u below above
 
 slot_same : {s t : SlotOf Kind} → SlotRel KindBelow s t → SlotRel KindBelow t s → s ≡ t
 slot_same (both_hold {a = a} {b = b} p) (both_hold q) = ap Holds (kind_same a b p q)

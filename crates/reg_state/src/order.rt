@@ -20,7 +20,7 @@ fn kinds_below(a: &[Kind], b: &[Kind]) -> bool
     true
 }
 
-// Whether neither is tagged, or both with the same tag.
+/// Whether neither is tagged, or both with the same tag.
 pub(crate) fn tagged_alike(a: Slot, b: Slot) -> bool
     ensures { result ≡ tagged_alike (slot_of a) (slot_of b) }
 {
