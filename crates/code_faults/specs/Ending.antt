@@ -1,5 +1,6 @@
 -- The functions of other modules that never return.
-use Rattle.std.specs.Prelude.{ℕ, zero, suc, ◌==◌, Bool, false, ◌&&◌, ◌||◌, Option, Some, None, List, codes, slice_get, bytes_eq}
+use Rattle.std.specs.Prelude.{ℕ, ◌==◌, Bool, false, ◌&&◌, ◌||◌, Option, Some, None, List, codes, slice_get, bytes_eq}
+use Rattle.index_tables.specs.Atoms.{atom_called}
 use Rattle.index_tables.specs.declared.entry.Import.{Import}
 use Rattle.op_table.specs.Instruction.{Instruction}
 use Rattle.op_table.specs.Planned.{operand_at, number_in}
@@ -9,10 +10,8 @@ abbrev pub is_text : Option (List ℕ) → List ℕ → Bool
 is_text None wanted = false
 is_text (Some text) wanted = bytes_eq text wanted
 
--- atoms are counted from 1
 abbrev pub is_atom_text : List (List ℕ) → ℕ → List ℕ → Bool
-is_atom_text atoms zero wanted = false
-is_atom_text atoms (suc n) wanted = is_text (slice_get atoms n) wanted
+is_atom_text atoms n wanted = is_text (atom_called atoms n) wanted
 
 abbrev pub is_error : ModuleValue → Import → Bool
 is_error m x = is_atom_text m.atoms x.name (codes "error") && ((x.arity == 1) || (x.arity == 2) || (x.arity == 3))

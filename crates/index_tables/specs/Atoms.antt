@@ -1,5 +1,5 @@
 -- The table of atoms: how their names are spelled, and which numbers they have.
-use Rattle.std.specs.Prelude.{◌≡◌, ℕ, ◌-◌, ◌^◌, ◌<◌, ◌≤◌, List, [], ◌∷◌, length, slice_index_or, All, IsUtf8}
+use Rattle.std.specs.Prelude.{◌≡◌, ℕ, zero, suc, ◌-◌, ◌^◌, ◌<◌, ◌≤◌, List, [], ◌∷◌, Option, None, length, slice_get, slice_index_or, All, IsUtf8}
 use Rattle.bk_codec.specs.Spelling.{SpellsCounted}
 
 -- an atom is a byte with the length of its name, and then the name, which is UTF-8
@@ -18,6 +18,11 @@ FitsAtoms names = (length names < 2 ^ 32) × All (λ name. length name < 256) na
 abbrev pub IsAtom : List (List ℕ) → ℕ → Type 0
 IsAtom names n = (1 ≤ n) × (n ≤ length names)
 
--- the name of the atom with a number
+-- the name of the atom with a number, if there is one
+abbrev pub atom_called : List (List ℕ) → ℕ → Option (List ℕ)
+atom_called names zero = None
+atom_called names (suc n) = slice_get names n
+
+-- the name of the atom with a number that is there
 abbrev pub atom_name : List (List ℕ) → ℕ → List ℕ
 atom_name names n = slice_index_or names (n - 1) []

@@ -12,13 +12,13 @@ use Rattle.bk_parse.proofs.Options.{map_some}
 use Rattle.bk_parse.proofs.Passing.{lacks_from}
 use Rattle.bk_parse.proofs.Splitting.{all_found, all_only, first_part, joined_parts, one_part}
 use Rattle.compact_term.specs.declared.operand.Operand.{Operand}
-use Rattle.op_table.specs.Table.{Row, is_name_byte, row_named, row_with}
+use Rattle.op_table.specs.Table.{Row, is_name_byte, row_name, row_named, row_with}
 use Rattle.op_table.specs.Instruction.{Instruction}
 use Rattle.operand_text.specs.Listed.{IsListed}
 use Rattle.operand_text.specs.Operand.{operand_text}
 use Rattle.operand_text.specs.Reading.{operand_of}
 use Rattle.operand_text.specs.Words.{is_word_byte}
-use Rattle.listing_out.specs.Lines.{instruction_line, name_of}
+use Rattle.listing_out.specs.Lines.{instruction_line}
 use Rattle.listing_out.specs.Listable.{InstrIsListed}
 use Rattle.listing_in.specs.declared.refusal.ListingWhy.{ListingWhy}
 use Rattle.listing_in.specs.declared.refusal.ListingWhy.TheVariants as whys
@@ -85,16 +85,16 @@ module _ (names_find : (op : ℕ) (r : Row) → row_with op ≡ Some r → row_n
       let numbered : row_with i.op ≡ Some is.row = ap row_with (sym is.op) ∙ rows_number name is.row is.named in
       let read = all_found operands texts i.operands is.read in
       let arity : option_map (λ (r : Row). r.arity) (row_with i.op) ≡ Some (length i.operands) = ap (option_map (λ (r : Row). r.arity)) numbered ∙ ap (λ (n : ℕ). Some n) (sym is.count) in
-      let front : name ≡ name_of (row_with i.op) = sym (rows_name name is.row is.named) ∙ ap name_of (sym numbered) in
+      let front : name ≡ row_name (row_with i.op) = sym (rows_name name is.row is.named) ∙ ap row_name (sym numbered) in
       let back : flat_map (λ t. (32 ∷ []) ++ t) texts ≡ flat_map (λ o. codes " " ++ operand_text o) i.operands =
       ap (flat_map (λ t. (32 ∷ []) ++ t)) (sym read.1) ∙ flat_map-map (λ t. (32 ∷ []) ++ t) operand_text i.operands in
-      let line : text ≡ instruction_text i = sym joined ∙ joined_behind 32 name texts ∙ ap (λ (n : List ℕ). n ++ flat_map (λ t. (32 ∷ []) ++ t) texts) front ∙ ap (λ (t : List ℕ). name_of (row_with i.op) ++ t) back in
+      let line : text ≡ instruction_text i = sym joined ∙ joined_behind 32 name texts ∙ ap (λ (n : List ℕ). n ++ flat_map (λ t. (32 ∷ []) ++ t) texts) front ∙ ap (λ (t : List ℕ). row_name (row_with i.op) ++ t) back in
       (record { arity = arity; operands = read.0 }, line)
 
   pub instruction_found : (text : List ℕ) (i : Instruction) → instruction_of text ≡ Ok i → InstrIsListed i × (codes "  " ++ text ≡ instruction_line i)
   instruction_found text i e =
       let is = parts_found text (parts_at 32 text) i (joined_parts 32 text) e in
-      (is.0, ap (λ (t : List ℕ). codes "  " ++ t) is.1 ∙ sym (append_assoc (codes "  ") (name_of (row_with i.op)) (flat_map (λ o. codes " " ++ operand_text o) i.operands)))
+      (is.0, ap (λ (t : List ℕ). codes "  " ++ t) is.1 ∙ sym (append_assoc (codes "  ") (row_name (row_with i.op)) (flat_map (λ o. codes " " ++ operand_text o) i.operands)))
 
   -- ---- what is written
 
@@ -106,7 +106,7 @@ module _ (names_find : (op : ℕ) (r : Row) → row_with op ≡ Some r → row_n
       let row = map_some (λ (r : Row). r.arity) (row_with i.op) (length i.operands) is.arity in
       let lack : Lacks 32 row.0.name = lacks_from is_name_byte 32 row.0.name refl (names_are i.op row.0 row.1).1 in
       let parts : parts_at 32 (instruction_text i) ≡ row.0.name ∷ map operand_text i.operands =
-      ap (λ (o : Option Row). parts_at 32 (name_of o ++ flat_map (λ o. codes " " ++ operand_text o) i.operands)) row.1
+      ap (λ (o : Option Row). parts_at 32 (row_name o ++ flat_map (λ o. codes " " ++ operand_text o) i.operands)) row.1
       ∙ parts_behind operand_text 32 row.0.name i.operands lack (operand_parts i.operands is.operands) in
       ap instruction_in parts
       ∙ ap (λ (o : Option Row). instruction_named o (map operand_text i.operands)) (names_find i.op row.0 row.1)

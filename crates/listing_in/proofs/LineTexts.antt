@@ -9,11 +9,11 @@ use Rattle.bk_parse.specs.Inverse.{Inverts}
 use Rattle.bk_parse.specs.Parts.{Lacks}
 use Rattle.iff_form.specs.declared.id.Id.{Id}
 use Rattle.iff_form.specs.Text.{id_text}
-use Rattle.op_table.specs.Table.{row_with}
+use Rattle.op_table.specs.Table.{row_name, row_with}
 use Rattle.op_table.specs.Instruction.{Instruction}
 use Rattle.operand_text.specs.Operand.{operand_text}
 use Rattle.code_chunk.specs.declared.code.CodeVal.{CodeVal}
-use Rattle.listing_out.specs.Lines.{instruction_line, name_of}
+use Rattle.listing_out.specs.Lines.{instruction_line}
 use Rattle.listing_out.specs.Listable.{CodeIsListed, InstrIsListed}
 use Rattle.listing_in.specs.Header.{begun_with, header_fields, header_of}
 use Rattle.listing_in.specs.Ids.{IsFourBytes, id_of}
@@ -22,7 +22,7 @@ use Rattle.listing_in.proofs.PayloadRows.{RowsGrow}
 
 -- what stands behind the two spaces of an instruction's line
 abbrev pub instruction_text : Instruction → List ℕ
-instruction_text i = name_of (row_with i.op) ++ flat_map (λ o. codes " " ++ operand_text o) i.operands
+instruction_text i = row_name (row_with i.op) ++ flat_map (λ o. codes " " ++ operand_text o) i.operands
 
 pub record LineTexts : Type 0 where
   pub rows : RowsGrow

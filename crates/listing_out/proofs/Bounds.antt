@@ -18,7 +18,7 @@ use Rattle.compact_term.specs.declared.operand.Operand.TheVariants as operands
 use Rattle.compact_term.specs.Canonical.{canonical}
 use Rattle.compact_term.specs.Operand.{IsProper, PlainIsProper}
 use Rattle.op_table.specs.Instruction.{Instruction}
-use Rattle.op_table.specs.Table.{row_with}
+use Rattle.op_table.specs.Table.{row_name, row_with}
 use Rattle.operand_text.specs.Listed.{IsListed, PlainIsListed}
 use Rattle.operand_text.specs.Operand.{operand_text}
 use Rattle.code_chunk.specs.Canonical.{canonical_header, canonical_instr}
@@ -27,7 +27,7 @@ use Rattle.code_chunk.specs.declared.code.CodeVal.{CodeVal}
 use Rattle.beam_module.specs.Canonical.{HasProperOperands, IsWritable, canonical_chunk_of, canonical_chunks}
 use Rattle.beam_module.specs.File.{FileChunk}
 use Rattle.beam_module.specs.declared.chunk_value.ChunkVal.TheVariants.{Code, Raw}
-use Rattle.listing_out.specs.Lines.{chunk_lines, code_line, extra_text, instruction_line, lines, name_of, payload_lines, text_of}
+use Rattle.listing_out.specs.Lines.{chunk_lines, code_line, extra_text, instruction_line, lines, payload_lines, text_of}
 use Rattle.listing_out.specs.Listable.{ChunkIsListed, InstrIsListed, IsListable}
 use Rattle.listing_out.specs.Listing.{IsListing, bare, before_line, has_text, kept, raw_lines, trimmed, uncommented}
 use Rattle.listing_out.proofs.Rows.{lines-first}
@@ -124,7 +124,7 @@ module _ (near : (o : Operand) → length (canonical o) ≤ 18 * length (operand
   instr_near : (i : Instruction) → length (canonical_instr i) ≤ 18 * length (instruction_line i)
   instr_near i =
       let os = operands_near i.operands in
-      omega (arith, length-append (codes "  " ++ name_of (row_with i.op)) (flat_map (λ o. codes " " ++ operand_text o) i.operands))
+      omega (arith, length-append (codes "  " ++ row_name (row_with i.op)) (flat_map (λ o. codes " " ++ operand_text o) i.operands))
 
   instrs_near : (is : List Instruction) → length (flat_map canonical_instr is) ≤ 18 * length (text_of (map instruction_line is))
   instrs_near [] = omega arith

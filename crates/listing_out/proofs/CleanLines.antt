@@ -14,12 +14,12 @@ use Rattle.compact_term.specs.declared.operand.Operand.{Operand}
 use Rattle.iff_form.specs.declared.id.Id.{Id}
 use Rattle.iff_form.specs.Text.{id_text, is_plain_id}
 use Rattle.op_table.specs.Instruction.{Instruction}
-use Rattle.op_table.specs.Table.{Row, is_name_byte, row_with}
+use Rattle.op_table.specs.Table.{Row, is_name_byte, row_name, row_with}
 use Rattle.operand_text.specs.Listed.{IsListed}
 use Rattle.operand_text.specs.Operand.{operand_text}
 use Rattle.operand_text.specs.Words.{is_word_byte}
 use Rattle.code_chunk.specs.declared.code.CodeVal.{CodeVal}
-use Rattle.listing_out.specs.Lines.{code_line, extra_text, instruction_line, name_of, payload_lines}
+use Rattle.listing_out.specs.Lines.{code_line, extra_text, instruction_line, payload_lines}
 use Rattle.listing_out.specs.Listable.{InstrIsListed}
 use Rattle.listing_out.specs.Listing.{has_text}
 use Rattle.listing_out.proofs.Clean.{IsClean, alphanumeric_word, clean_behind, decimal_word, has_text_ended, hex_some, hex_word, is_inline, is_line_byte, name_byte_word, no_newline, word_clean, word_line}
@@ -96,7 +96,7 @@ IsWord r = (0 < length r.name) × (list_all is_name_byte r.name ≡ true)
 abbrev pub NamesAreWords : Type 0
 NamesAreWords = (op : ℕ) (r : Row) → row_with op ≡ Some r → IsWord r
 
-name_clean : (o : Option Row) (n : ℕ) → ((r : Row) → o ≡ Some r → IsWord r) → option_map (λ r. r.arity) o ≡ Some n → IsClean (name_of o)
+name_clean : (o : Option Row) (n : ℕ) → ((r : Row) → o ≡ Some r → IsWord r) → option_map (λ r. r.arity) o ≡ Some n → IsClean (row_name o)
 name_clean None n words arity = absurd cc
 name_clean (Some r) n words arity =
     let word = words r refl in
@@ -114,4 +114,4 @@ module _ (names_are_words : NamesAreWords)
   pub instruction_clean : (i : Instruction) → InstrIsListed i → IsClean (instruction_line i)
   instruction_clean i is =
       let name = name_clean (row_with i.op) (length i.operands) (names_are_words i.op) is.arity in
-      clean_before (codes "  " ++ name_of (row_with i.op)) (flat_map (λ o. codes " " ++ operand_text o) i.operands) (clean_behind (codes "  ") (name_of (row_with i.op)) refl name) (operands_clean i.operands is.operands)
+      clean_before (codes "  " ++ row_name (row_with i.op)) (flat_map (λ o. codes " " ++ operand_text o) i.operands) (clean_behind (codes "  ") (row_name (row_with i.op)) refl name) (operands_clean i.operands is.operands)

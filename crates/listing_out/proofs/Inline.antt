@@ -1,5 +1,5 @@
 -- No newline stands in a comment.
-use Rattle.std.proofs.Common.{◌≡◌, ℕ, zero, suc, ◌+◌, ◌<◌, ◌==◌, Bool, true, false, not, List, [], ◌∷◌, ◌++◌, length, take, None, refl, arith}
+use Rattle.std.proofs.Common.{◌≡◌, ℕ, zero, suc, ◌+◌, ◌<◌, ◌==◌, Bool, true, false, not, List, [], ◌∷◌, ◌++◌, length, take, refl, arith}
 use Rattle.std.proofs.lemmas.Bool.{and_from, and_parts, cond_both, not_from_false}
 use Rattle.std.proofs.lemmas.Bool.Decides.{nat_tests}
 use Rattle.std.specs.Prelude.{◌-◌, codes, decimal, nat_lt, slice_get}
@@ -88,8 +88,8 @@ got_inline (name ∷ names) (suc i) h = got_inline names i (and_parts (list_all 
 
 module _ (names : Names) (are : AreInline names) where
   called_inline : (is_import : Bool) (plain : Plain) → list_all (list_all is_inline) (item_of (called names is_import plain)) ≡ true
-  called_inline is_import (plains.A n) =
-      cond_both (n == 0) None (slice_get names.atoms (n - 1)) (λ o. list_all (list_all is_inline) (item_of o) ≡ true) (λ nil. refl) (λ some. got_inline names.atoms (n - 1) are.atoms)
+  called_inline is_import (plains.A zero) = refl
+  called_inline is_import (plains.A (suc n)) = got_inline names.atoms n are.atoms
   called_inline true (plains.U n) = got_inline names.imports n are.imports
   called_inline false (plains.U n) = refl
   called_inline is_import (plains.I z) = refl

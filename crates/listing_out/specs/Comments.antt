@@ -1,5 +1,5 @@
 -- Comments: what the atoms and imports in an instruction's operands are called, behind its line.
-use Rattle.std.specs.Prelude.{ℕ, ◌+◌, ◌-◌, ◌==◌, Bool, true, false, nat_lt, if◌then◌else◌, List, [], ◌∷◌, ◌++◌, length, take, map, codes, slice_get, Option, Some, None, Result, Ok, Err, bytes_eq}
+use Rattle.std.specs.Prelude.{ℕ, ◌+◌, Bool, true, false, nat_lt, if◌then◌else◌, List, [], ◌∷◌, ◌++◌, length, take, map, codes, slice_get, Option, Some, None, Result, Ok, Err, bytes_eq}
 use Rattle.std.specs.List.{flat_map}
 use Rattle.ext_term.specs.Name.{name_text}
 use Rattle.compact_term.specs.declared.operand.Plain.{Plain}
@@ -7,6 +7,7 @@ use Rattle.compact_term.specs.declared.operand.Plain.TheVariants as plains
 use Rattle.compact_term.specs.declared.operand.Operand.{Operand}
 use Rattle.compact_term.specs.declared.operand.Operand.TheVariants as operands
 use Rattle.iff_form.specs.Text.{id_text}
+use Rattle.index_tables.specs.Atoms.{atom_called}
 use Rattle.index_tables.specs.declared.entry.Import.{Import}
 use Rattle.index_tables.specs.Reading.{all_atoms, all_entries}
 use Rattle.index_tables.specs.Shape.{import_shape}
@@ -56,13 +57,9 @@ names_in v = record {
 
 -- ---- the items of a comment, in the order of the operands
 
--- what an atom is called, whose numbers begin with 1
-abbrev pub atom_called : Names → ℕ → Option (List ℕ)
-atom_called names n = if n == 0 then None else slice_get names.atoms (n - 1)
-
 -- an atom wherever it stands, and an import where its number is expected
 abbrev pub called : Names → Bool → Plain → Option (List ℕ)
-called names is_import (plains.A n) = atom_called names n
+called names is_import (plains.A n) = atom_called names.atoms n
 called names is_import (plains.U n) = if is_import then slice_get names.imports n else None
 called names is_import plain = None
 

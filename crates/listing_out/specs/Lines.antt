@@ -1,11 +1,11 @@
 -- The listing of a file: a line `beam 1`, and then the lines of each chunk in order.
-use Rattle.std.specs.Prelude.{ℕ, List, [], ◌∷◌, ◌++◌, Option, Some, None, length, map, codes, decimal}
+use Rattle.std.specs.Prelude.{ℕ, List, [], ◌∷◌, ◌++◌, length, map, codes, decimal}
 use Rattle.std.specs.List.{flat_map, range_with_len}
 use Rattle.std.specs.Fork.{slice_chunk}
 use Rattle.std.specs.Int.{div_ceil}
 use Rattle.hex.specs.Hex.{encode_lower}
 use Rattle.iff_form.specs.Text.{id_text}
-use Rattle.op_table.specs.Table.{Row, row_with}
+use Rattle.op_table.specs.Table.{row_name, row_with}
 use Rattle.op_table.specs.Instruction.{Instruction}
 use Rattle.code_chunk.specs.declared.code.CodeVal.{CodeVal}
 use Rattle.beam_module.specs.File.{FileChunk}
@@ -24,14 +24,9 @@ payload_lines payload = map (payload_line payload) (range_with_len 0 (div_ceil (
 
 -- ---- code
 
--- the name of an opcode, which every instruction has
-abbrev pub name_of : Option Row → List ℕ
-name_of (Some r) = r.name
-name_of None = []
-
 -- two spaces, the name, and each operand behind a space
 abbrev pub instruction_line : Instruction → List ℕ
-instruction_line i = codes "  " ++ name_of (row_with i.op) ++ flat_map (λ o. codes " " ++ operand_text o) i.operands
+instruction_line i = codes "  " ++ row_name (row_with i.op) ++ flat_map (λ o. codes " " ++ operand_text o) i.operands
 
 -- the extra bytes of the sub-header, or a dash where there are none
 abbrev pub extra_text : List ℕ → List ℕ

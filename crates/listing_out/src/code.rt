@@ -1,8 +1,7 @@
 //! The lines of code.
 
 ghost use Rattle.std.specs.Prelude.{◌≡◌, ◌∷◌, ◌++◌, map, OnOk};
-ghost use Rattle.op_table.specs.Table.{row_with};
-ghost use Rattle.listing_out.specs.Lines.{name_of, extra_text, code_line, instruction_line, text_of};
+ghost use Rattle.listing_out.specs.Lines.{extra_text, code_line, instruction_line, text_of};
 ghost use Rattle.listing_out.specs.Comments.{commented_instruction};
 
 use crate::comments::put_comment;
@@ -10,7 +9,7 @@ use crate::names::Names;
 use bk_base::{Bytes, NoMemory};
 use bk_text::{put_hex, put_marked};
 use code_chunk::CodeVal;
-use op_table::{Instr, op_row};
+use op_table::Instr;
 use operand_text::put_operand;
 
 /// Appends the lines of code to `out`: the line `code H L F E`, and one for each instruction with its
@@ -57,17 +56,10 @@ fn put_instruction(out: &mut Bytes, instr: &Instr) -> Result<(), NoMemory>
     ensures { OnOk result (out.new.items ≡ out.old.items ++ instruction_line instr.now) }
 {
     out.extend(b"  ")?;
-    put_name(out, instr)?;
+    out.extend(instr.name().as_bytes())?;
     for operand in instr.operands().as_slice() {
         out.push(b' ')?;
         put_operand(out, operand)?;
     }
     Ok(())
-}
-
-fn put_name(out: &mut Bytes, instr: &Instr) -> Result<(), NoMemory>
-    ensures { OnOk result (out.new.items ≡ out.old.items ++ name_of (row_with instr.now.op)) }
-{
-    let row = op_row(instr.op()).unwrap();
-    out.extend(row.name.as_bytes())
 }
