@@ -13,7 +13,7 @@ use Rattle.code_faults.specs.Faults.{faults_at, faults_from, function_faults}
 use Rattle.code_faults.specs.Operands.{instruction_fault}
 use Rattle.code_faults.specs.Registers.{x_bound}
 use Rattle.flow_rules.specs.Body.{body_from}
-use Rattle.flow_rules.specs.Making.{HasPlan, ArePlans, IsFlowOf, faults_of, faults_of_piece, handlers_of, y_bound}
+use Rattle.flow_rules.specs.Making.{HasPlan, IsFlowOf, faults_of, faults_of_piece, handlers_of, y_bound}
 
 -- ---- lists
 
@@ -65,12 +65,6 @@ module _ (m : ModuleValue) (f : Piece) (number : ℕ) where
   pub all_plans : (place : ℕ) (faults : List Fault) (plans : List Plan) → length f.instrs ≤ place → HavePlans place faults plans → faults ≡ [] → AllZip (HasPlan m f) f.instrs plans
   all_plans place faults plans past have none = subst (λ (is : List Instruction). AllZip (HasPlan m f) is plans) (take_all place f.instrs past) (have none)
 
-pub plans_are : (m : ModuleValue) (f : Piece) (instrs : List Instruction) (plans : List Plan) → AllZip (HasPlan m f) instrs plans → ArePlans m instrs plans
-plans_are m f [] [] have = tt
-plans_are m f [] (p ∷ ps) have = absurd have
-plans_are m f (i ∷ is) [] have = absurd have
-plans_are m f (i ∷ is) (p ∷ ps) have = (have.0.plan, plans_are m f is ps have.1)
-
 pub faults_are : (m : ModuleValue) (number : ℕ) (f : Piece) → slice_get m.code.functions number ≡ Some f → faults_of m number ≡ function_faults m number f
 faults_are m number f there = ap (faults_of_piece m number) there
 
@@ -79,6 +73,6 @@ flow_is m number f plans handlers there have is = record {
   function = f;
   is_there = there;
   plans = plans;
-  plans_are = plans_are m f f.instrs plans have;
+  plans_are = have;
   is = ap (λ (hs : List ℕ). body_from f plans hs (x_bound f) (y_bound plans)) is;
 }

@@ -10,3 +10,11 @@ pub mod Judged
 pub mod Widest
 pub mod Told
 pub mod Opened
+pub mod Placed
+pub mod Agreeing
+pub mod Leading
+pub mod Stepping
+pub mod Accepting
+pub mod Running
+pub mod Misused
+pub mod Progress

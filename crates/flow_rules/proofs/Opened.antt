@@ -20,7 +20,7 @@ use Rattle.code_faults.specs.Operands.{instruction_fault}
 use Rattle.code_faults.specs.Registers.{x_bound}
 use Rattle.flow_rules.specs.Body.{body_fits, body_from}
 use Rattle.flow_rules.specs.Lawful.{body_lawful}
-use Rattle.flow_rules.specs.Making.{ArePlans, HasPlan, handlers_of, y_bound}
+use Rattle.flow_rules.specs.Making.{HasPlan, handlers_of, y_bound}
 use Rattle.flow_rules.specs.Reporting.{AreReported, IsFunctionReport, IsReport}
 use Rattle.flow_rules.specs.Reports.{body_in, function_report, made_plan, plans_in, report_after, report_of, reports_from, typing_in}
 use Rattle.flow_rules.proofs.Told.{typing_found}
@@ -69,12 +69,6 @@ module _ (laws : Laws) (m : ModuleValue) where
         let has : HasPlan m f i plan.0 = record { instruction = all.0; sound = is; plan = plan.1 } in
         subst (λ (made : Result Plan PlanRefusal). AllZip (HasPlan m f) (i ∷ instrs) (made_plan made ++ plans_in m instrs)) (sym plan.1) (has, rest later)
 
-  are_plans : (f : Piece) (instrs : List Instruction) (plans : List Plan) → AllZip (HasPlan m f) instrs plans → ArePlans m instrs plans
-  are_plans f [] [] have = tt
-  are_plans f [] (p ∷ plans) have = elim have [ ]
-  are_plans f (i ∷ instrs) [] have = elim have [ ]
-  are_plans f (i ∷ instrs) (p ∷ plans) have = (have.0.plan, are_plans f instrs plans have.1)
-
   -- ---- reports
 
   has_report : (number : ℕ) (f : Piece) → slice_get m.code.functions number ≡ Some f → AllByRecursion IsInstruction f.instrs → f.entry < length f.instrs → IsFunctionReport m number f (function_report m number f)
@@ -87,7 +81,7 @@ module _ (laws : Laws) (m : ModuleValue) where
         inr (record {
           sound = is;
           body = body_in m f;
-          body_is = record { function = f; is_there = there; plans = plans_in m f.instrs; plans_are = are_plans f f.instrs (plans_in m f.instrs) have; is = refl };
+          body_is = record { function = f; is_there = there; plans = plans_in m f.instrs; plans_are = have; is = refl };
           typing = typing_in (body_in m f);
           least = typing_found laws.joins (body_in m f) lawful;
           list_is = refl;

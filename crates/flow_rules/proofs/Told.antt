@@ -20,28 +20,28 @@ use Rattle.code_faults.specs.Faults.{faults_at, function_faults}
 use Rattle.flow_rules.specs.Body.{Body}
 use Rattle.flow_rules.specs.Flow.{FitsBody, IsBelowState, state_rank, meaning_of}
 use Rattle.flow_rules.specs.FlowBody.{need_at}
-use Rattle.flow_rules.specs.Making.{ArePlans, IsFlowOf}
+use Rattle.flow_rules.specs.Making.{ArePlans, IsFlowOf, body_with}
 use Rattle.flow_rules.specs.RankLaws.{no_rise_back}
 use Rattle.flow_rules.specs.Reporting.{AreReported, IsFunctionReport, IsReport, IsTypedReport, faults_in, typed_faults}
-use Rattle.flow_rules.specs.Reports.{body_in, body_with, function_report, joined_state, made_plan, plans_in, report_after, typed_report, typing_in}
+use Rattle.flow_rules.specs.Reports.{body_in, function_report, joined_state, made_plan, plans_in, report_after, typed_report, typing_in}
 use Rattle.flow_rules.specs.Views.{state_viewed}
 use Rattle.flow_rules.proofs.Joined.{joined_fits}
 
 -- ---- bodies
 
-plans_found : (m : ModuleValue) (instrs : List Instruction) (plans : List Plan) → ArePlans m instrs plans → plans ≡ plans_in m instrs
-plans_found m [] [] are = refl
-plans_found m [] (p ∷ plans) are = elim are [ ]
-plans_found m (i ∷ instrs) [] are = elim are [ ]
-plans_found m (i ∷ instrs) (p ∷ plans) are =
-    let rest = plans_found m instrs plans are.1 in
-    let first : made_plan (plan_of i (ends m i)) ≡ p ∷ [] = ap made_plan are.0 in
+plans_found : (m : ModuleValue) (f : Piece) (instrs : List Instruction) (plans : List Plan) → ArePlans m f instrs plans → plans ≡ plans_in m instrs
+plans_found m f [] [] are = refl
+plans_found m f [] (p ∷ plans) are = elim are [ ]
+plans_found m f (i ∷ instrs) [] are = elim are [ ]
+plans_found m f (i ∷ instrs) (p ∷ plans) are =
+    let rest = plans_found m f instrs plans are.1 in
+    let first : made_plan (plan_of i (ends m i)) ≡ p ∷ [] = ap made_plan are.0.plan in
     ap (λ (more : List Plan). p ∷ more) rest ∙ ap (λ (front : List Plan). front ++ plans_in m instrs) (sym first)
 
 pub body_found : (m : ModuleValue) (number : ℕ) (f : Piece) (b : Body) → slice_get m.code.functions number ≡ Some f → IsFlowOf m number b → b ≡ body_in m f
 body_found m number f b is flow =
     let same_function : flow.function ≡ f = same_Some flow.function f (sym flow.is_there ∙ is) in
-    let plans = plans_found m flow.function.instrs flow.plans flow.plans_are in
+    let plans = plans_found m flow.function flow.function.instrs flow.plans flow.plans_are in
     flow.is ∙ (ap (body_with flow.function) plans ∙ ap (body_in m) same_function)
 
 -- ---- typings

@@ -61,7 +61,7 @@ abbrev pub may_raise : Plan → Bool
 may_raise p = p.raises || exit_raises p.exit
 
 -- the label of the lowest handler, if there is one
-abbrev pub lowest : List (SlotOf Kind) → List ℕ
+abbrev pub lowest : {A : Type 0} → List (SlotOf A) → List ℕ
 lowest [] = []
 lowest (Holds kind ∷ ss) = lowest ss
 lowest (Tagged label kind ∷ ss) = label ∷ []

@@ -17,3 +17,9 @@ pub mod Appended
 pub mod Reporting
 pub mod Reports
 pub mod AllPlans
+pub mod Values
+pub mod Machine
+pub mod Outcomes
+pub mod Runs
+pub mod Conforming
+pub mod Examples

@@ -22,9 +22,9 @@ pub record HasPlan (m : ModuleValue) (f : Piece) (i : Instruction) (p : Plan) : 
   pub sound : instruction_fault m f i ≡ None
   pub plan : plan_of i (ends m i) ≡ Ok p
 
--- each instruction has this plan
-abbrev pub ArePlans : ModuleValue → List Instruction → List Plan → Type 0
-ArePlans m instrs plans = AllZip (λ i p. plan_of i (ends m i) ≡ Ok p) instrs plans
+-- nothing is wrong with any instruction, and these are their plans
+abbrev pub ArePlans : ModuleValue → Piece → List Instruction → List Plan → Type 0
+ArePlans m f instrs plans = AllZip (HasPlan m f) instrs plans
 
 -- the labels of `catch` and `try`, in the order of the code
 abbrev pub handlers_of : List Plan → List ℕ
@@ -45,13 +45,16 @@ y_bound plans = widened_by 0 (flat_map (λ p. p.before ++ p.after) plans)
 
 -- ---- functions
 
+abbrev pub body_with : Piece → List Plan → Body
+body_with f plans = body_from f plans (handlers_of plans) (x_bound f) (y_bound plans)
+
 -- the flow of function number `number`
 pub record IsFlowOf (m : ModuleValue) (number : ℕ) (b : Body) : Type 0 where
   pub function : Piece
   pub is_there : slice_get m.code.functions number ≡ Some function
   pub plans : List Plan
-  pub plans_are : ArePlans m function.instrs plans
-  pub is : b ≡ body_from function plans (handlers_of plans) (x_bound function) (y_bound plans)
+  pub plans_are : ArePlans m function function.instrs plans
+  pub is : b ≡ body_with function plans
 
 abbrev pub faults_of_piece : ModuleValue → ℕ → Option Piece → List Fault
 faults_of_piece m number None = []

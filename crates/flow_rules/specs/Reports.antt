@@ -15,10 +15,9 @@ use Rattle.beam_module.specs.Module.{ModuleValue}
 use Rattle.code_faults.specs.declared.fault.Fault.{Fault}
 use Rattle.code_faults.specs.Ending.{ends}
 use Rattle.code_faults.specs.Faults.{function_faults}
-use Rattle.code_faults.specs.Registers.{x_bound}
-use Rattle.flow_rules.specs.Body.{Body, body_from}
+use Rattle.flow_rules.specs.Body.{Body}
 use Rattle.flow_rules.specs.Flow.{meaning_of}
-use Rattle.flow_rules.specs.Making.{handlers_of, y_bound}
+use Rattle.flow_rules.specs.Making.{body_with}
 use Rattle.flow_rules.specs.Reporting.{typed_faults}
 use Rattle.flow_rules.specs.Stating.{state_from}
 
@@ -30,9 +29,6 @@ made_plan (Err why) = []
 
 abbrev pub plans_in : ModuleValue → List Instruction → List Plan
 plans_in m instrs = flat_map (λ i. made_plan (plan_of i (ends m i))) instrs
-
-abbrev pub body_with : Piece → List Plan → Body
-body_with f plans = body_from f plans (handlers_of plans) (x_bound f) (y_bound plans)
 
 abbrev pub body_in : ModuleValue → Piece → Body
 body_in m f = body_with f (plans_in m f.instrs)

@@ -46,7 +46,7 @@ edges_to_rise place labels others s t held below =
 
 -- ---- raising
 
-lowest_same : {ss ts : List (SlotOf Kind)} → SlotsRel KindBelow ss ts → lowest ss ≡ lowest ts
+pub lowest_same : {A B : Type 0} {R : A → B → Type 0} {ss : List (SlotOf A)} {ts : List (SlotOf B)} → SlotsRel R ss ts → lowest ss ≡ lowest ts
 lowest_same none = refl
 lowest_same (more (both_hold related) rest) = lowest_same rest
 lowest_same (more (both_tagged label kind) rest) = refl

@@ -12,9 +12,9 @@ ghost use Rattle.code_faults.specs.Faults.{function_faults};
 ghost use Rattle.code_faults.specs.Operands.{instruction_fault};
 ghost use Rattle.code_faults.specs.Registers.{x_bound};
 ghost use Rattle.flow_rules.specs.declared.refusal.FlowRefusal.TheVariants as refusals;
-ghost use Rattle.flow_rules.specs.Body.{body_fits, body_from};
+ghost use Rattle.flow_rules.specs.Body.{body_fits};
 ghost use Rattle.flow_rules.specs.FlowBody.{body_of};
-ghost use Rattle.flow_rules.specs.Making.{HasPlan, IsFlowOf, faults_of, handlers_of, widened_by, y_bound};
+ghost use Rattle.flow_rules.specs.Making.{HasPlan, IsFlowOf, body_with, faults_of, handlers_of, widened_by, y_bound};
 
 use crate::fn_flow::FnFlow;
 use crate::refusal::FlowRefusal;
@@ -50,7 +50,7 @@ struct Findings {
 
 /// A function leads to places of its own alone where nothing is wrong with its instructions.
 pub(crate) fn sound_functions_fit()
-    ensures { (m : ModuleValue) (f : Piece) (plans : List Plan) → AllZip (HasPlan m f) f.instrs plans → f.entry < length f.instrs → body_fits (body_from f plans (handlers_of plans) (x_bound f) (y_bound plans)) ≡ true }
+    ensures { (m : ModuleValue) (f : Piece) (plans : List Plan) → AllZip (HasPlan m f) f.instrs plans → f.entry < length f.instrs → body_fits (body_with f plans) ≡ true }
 {
     plans_keep_labels();
     plans_write_named_registers();

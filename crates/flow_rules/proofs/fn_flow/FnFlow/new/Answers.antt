@@ -6,7 +6,7 @@ use Rattle.func_split.specs.Functions.{StandsIn}
 use Rattle.flow_rules.specs.AllPlans.{plans_steady}
 use Rattle.flow_rules.specs.Body.{body_fits, body_from}
 use Rattle.flow_rules.specs.Making.{HasPlan, handlers_of, y_bound}
-use Rattle.flow_rules.proofs.Judged.{faults_are, flow_is, plans_are}
+use Rattle.flow_rules.proofs.Judged.{faults_are, flow_is}
 use Rattle.flow_rules.proofs.fn_flow.FnFlow.new.Goals as goal
 
 pub invariant_of-result : goal.invariant_of-result
@@ -22,7 +22,7 @@ invariant_of-result c =
     let handlers : c.in_ok-handlers.handlers ≡ handlers_of plans = c.in_ok-handlers.ensures ∙ ap handlers_of c.as_slice.ensures in
     record {
       fits = subst (λ (hs : List ℕ). body_fits (body_from f plans hs (x_bound f) (y_bound plans)) ≡ true) (sym handlers) (c.sound_functions_fit.ensures m f plans have stands.entry);
-      steady = plans_steady m f.instrs plans c.plans_are_steady.ensures (plans_are m f f.instrs plans have);
+      steady = plans_steady m f f.instrs plans c.plans_are_steady.ensures have;
       low = subst (λ (n : ℕ). n < 4_294_967_296) (c.widest_frame-widest.ensures ∙ ap y_bound c.as_slice-2.ensures) c.widest_frame-widest.type_inv;
       sized = AllZip-long (HasPlan m f) f.instrs plans have;
       short = places.1;
