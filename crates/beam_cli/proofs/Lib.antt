@@ -4,3 +4,4 @@ pub mod Messages
 pub mod Parts
 pub mod Printed
 pub mod RoundTrips
+pub mod Accepted

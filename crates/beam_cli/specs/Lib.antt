@@ -14,3 +14,4 @@ pub mod Outcome
 pub mod Stopping
 pub mod Printing
 pub mod RoundTrip
+pub mod Accepting

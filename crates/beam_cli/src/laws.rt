@@ -1,7 +1,7 @@
 //! What the commands print, by the grammars alone: the output of a command for the bytes of its files
 //! is a text exactly where these are in the grammar that the command needs, and is that text.
 
-ghost use Rattle.std.specs.Prelude.{◌≡◌, ℕ, List, Ok};
+ghost use Rattle.std.specs.Prelude.{◌≡◌, ℕ, List, Ok, false};
 ghost use Rattle.bk_codec.specs.Exact.{IsExact};
 ghost use Rattle.bk_codec.specs.Spelling.{IsBytes};
 ghost use Rattle.beam_module.specs.Canonical.{canonical_file};
@@ -10,8 +10,10 @@ ghost use Rattle.listing_out.specs.Comments.{commented_listing};
 ghost use Rattle.listing_out.specs.Listable.{IsListable};
 ghost use Rattle.listing_out.specs.Listing.{IsListing};
 ghost use Rattle.beam_cli.specs.declared.shown.Shown.{Shown};
+ghost use Rattle.beam_cli.specs.Accepting.{IsSafe};
 ghost use Rattle.beam_cli.specs.Answer.{asm_output, canon_output, disasm_output, info_output, strip_output};
 ghost use Rattle.beam_cli.specs.Comparing.{cmp_output};
+ghost use Rattle.beam_cli.specs.Made.{Made};
 ghost use Rattle.beam_cli.specs.Showing.{show_output};
 ghost use Rattle.beam_cli.specs.Printing.{HasNamedForm, IsExactOnTwo, PrintsAssembled, PrintsCanonical, PrintsDifference, PrintsInfo, PrintsListing, PrintsReport, PrintsStripped, PrintsTable};
 ghost use Rattle.beam_cli.specs.Validating.{validate_output};
@@ -97,4 +99,13 @@ pub fn validate_is_exact()
     beam_module::opening_is_exact();
     flow_rules::one_report();
     flow_rules::modules_have_reports();
+}
+
+/// A file that `validate` finds nothing wrong with is a module, no run of which is ever stuck.
+pub fn accepted_files_are_safe()
+    ensures { (bytes : List ℕ) (made : Made) → IsBytes bytes → validate_output bytes ≡ Ok made → made.found ≡ false → IsSafe bytes }
+{
+    beam_module::opening_is_exact();
+    flow_rules::modules_have_reports();
+    flow_rules::accepted_modules_never_get_stuck();
 }

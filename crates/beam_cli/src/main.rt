@@ -21,8 +21,8 @@ mod validating;
 
 pub use crate::command::{Command, Request, request_from};
 pub use crate::laws::{
-    asm_is_exact, canon_is_exact, cmp_is_exact, disasm_is_exact, info_is_exact,
-    listings_are_assembled, show_is_exact, strip_is_exact, validate_is_exact,
+    accepted_files_are_safe, asm_is_exact, canon_is_exact, cmp_is_exact, disasm_is_exact,
+    info_is_exact, listings_are_assembled, show_is_exact, strip_is_exact, validate_is_exact,
 };
 pub use crate::refusal::Refusal;
 pub use crate::running::run;

@@ -4,6 +4,7 @@ ghost use Rattle.std.specs.Prelude.{◌≡◌, ◌+◌, ◌↔◌, ◌⊎◌, No
 ghost use Rattle.bk_port.specs.Causes.{Rose};
 ghost use Rattle.bk_port.specs.Reading.{HasReadAtMost};
 ghost use Rattle.bk_port.specs.declared.reading.TheConstants.{MOST_BYTES};
+ghost use Rattle.beam_cli.specs.Accepting.{Accepts};
 ghost use Rattle.beam_cli.specs.Words.{asked_by, named};
 ghost use Rattle.beam_cli.specs.Answer.{answer};
 ghost use Rattle.beam_cli.specs.Files.{IsFirst};
@@ -11,7 +12,7 @@ ghost use Rattle.beam_cli.specs.RoundTrip.{Assembles, Lists};
 ghost use Rattle.beam_cli.specs.Outcome.{IsStatus, IsOutput, IsAnswered, IsMessage, IsSaid, SomeRose, SomeLeft};
 
 use crate::command::request_from;
-use crate::laws::listings_are_assembled;
+use crate::laws::{accepted_files_are_safe, listings_are_assembled};
 use crate::making::make;
 use crate::saying::{say_stop, say_usage, say_write_fault};
 use crate::status::Status;
@@ -53,10 +54,13 @@ pub fn run<H: Host, O: Sink, E: Sink>(
     // A listing is assembled to the canonical file of its value, and what is printed of a file is one.
     ensures assembles { Assembles (H.holds host.old) words.now result (O.written out.old) (O.written out.new) }
     ensures lists { Lists (H.holds host.old) words.now result (O.written out.old) (O.written out.new) }
+    // A file that `validate` finds nothing wrong with is a module that never gets stuck.
+    ensures accepts { Accepts (H.holds host.old) words.now result }
     // What is left of the host.
     ensures left { SomeLeft (H.holds host.old) (H.left host.old) (H.left host.new) (named (asked_by words.now)) }
 {
     listings_are_assembled();
+    accepted_files_are_safe();
     let Some(request) = request_from(words) else {
         say_usage(err);
         return Status::Usage;

@@ -7,7 +7,7 @@ use Rattle.std.proofs.lemmas.List.Elements.{All-nil, All-cons, All-append}
 use Rattle.std.proofs.lemmas.Option.{same_Some, slice_get-get_or, slice_get_cases}
 use Rattle.std.proofs.lemmas.Slice.Zip.{AllZip-long}
 use Rattle.op_table.specs.Instruction.{Instruction}
-use Rattle.op_table.specs.Table.{row_with}
+use Rattle.op_table.specs.Table.{row_name, row_with}
 use Rattle.reg_state.specs.declared.state.State.{State}
 use Rattle.reg_state.specs.States.{store_of}
 use Rattle.label_fixpoint.specs.Typing.{Typing, IsLeast}
@@ -25,7 +25,7 @@ use Rattle.flow_rules.specs.Making.{IsFlowOf, faults_of, faults_of_piece}
 use Rattle.flow_rules.specs.Reporting.{AreReported, IsFunctionReport, IsReport, IsTypedReport, faults_in, typed_faults}
 use Rattle.flow_rules.specs.Reports.{function_report, reports_from}
 use Rattle.validator.specs.Reported.{AddsReport, IsIn, IsReportOf}
-use Rattle.validator.specs.Text.{fault_line, line_in, line_with, opcode_text, row_name}
+use Rattle.validator.specs.Text.{fault_line, line_in, line_with, opcode_text}
 
 -- ---- one function more
 

@@ -1,9 +1,10 @@
 -- The text of a report.
-use Rattle.std.specs.Prelude.{ℕ, zero, suc, ◌-◌, Option, Some, None, List, [], ◌++◌, codes, decimal, length, slice_get}
+use Rattle.std.specs.Prelude.{ℕ, ◌-◌, Option, Some, None, List, [], ◌++◌, codes, decimal, length, slice_get}
 use Rattle.std.specs.List.{flat_map}
 use Rattle.ext_term.specs.Name.{name_text}
+use Rattle.index_tables.specs.Atoms.{atom_called}
 use Rattle.op_table.specs.Instruction.{Instruction}
-use Rattle.op_table.specs.Table.{Row, row_with}
+use Rattle.op_table.specs.Table.{row_name, row_with}
 use Rattle.operand_text.specs.Operand.{register_text}
 use Rattle.func_split.specs.Functions.{Piece}
 use Rattle.beam_module.specs.Module.{ModuleValue}
@@ -31,11 +32,6 @@ reason_text (Target k) = codes "target " ++ decimal k
 
 -- ---- names
 
--- the atom with a number, counted from 1
-abbrev pub atom_at : List (List ℕ) → ℕ → Option (List ℕ)
-atom_at atoms zero = None
-atom_at atoms (suc n) = slice_get atoms n
-
 -- a number that no atom has is shown itself
 abbrev pub name_or_number : ℕ → Option (List ℕ) → List ℕ
 name_or_number n (Some name) = name_text name
@@ -43,11 +39,7 @@ name_or_number n None = codes "a" ++ decimal n
 
 -- NAME/ARITY
 abbrev pub function_text : List (List ℕ) → Piece → List ℕ
-function_text atoms f = name_or_number f.name (atom_at atoms f.name) ++ codes "/" ++ decimal f.arity
-
-abbrev pub row_name : Option Row → List ℕ
-row_name (Some r) = r.name
-row_name None = []
+function_text atoms f = name_or_number f.name (atom_called atoms f.name) ++ codes "/" ++ decimal f.arity
 
 abbrev pub opcode_text : Option Instruction → List ℕ
 opcode_text (Some i) = row_name (row_with i.op)

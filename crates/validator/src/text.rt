@@ -2,10 +2,11 @@
 
 ghost use Rattle.std.specs.Prelude.{◌≡◌, ◌++◌, All, IfOk, OnOk};
 ghost use Rattle.std.specs.List.{flat_map};
-ghost use Rattle.op_table.specs.Table.{row_with};
+ghost use Rattle.index_tables.specs.Atoms.{atom_called};
+ghost use Rattle.op_table.specs.Table.{row_name, row_with};
 ghost use Rattle.operand_text.specs.Operand.{register_text};
 ghost use Rattle.validator.specs.Reported.{IsIn};
-ghost use Rattle.validator.specs.Text.{atom_at, fault_line, function_text, line_with, name_or_number, reason_text, report_text, row_name, verdict_line};
+ghost use Rattle.validator.specs.Text.{fault_line, function_text, line_with, name_or_number, reason_text, report_text, verdict_line};
 
 use crate::validating::Report;
 use beam_module::Module;
@@ -16,13 +17,13 @@ use ext_term::name_text;
 use flow_rules::{Fault, Reason};
 use func_split::Function;
 use index_tables::{Atoms, atom_name};
-use op_table::{Instr, op_row};
+use op_table::Instr;
 use operand_text::put_register;
 use std::alloc::Global;
 
 // Puts the name of the atom with this number at the end, or the number where no atom has it.
 fn put_name(out: &mut Bytes, atoms: &Atoms, number: u32) -> Result<(), NoMemory>
-    ensures { OnOk result (out.new.items ≡ out.old.items ++ name_or_number number (atom_at atoms.now number)) }
+    ensures { OnOk result (out.new.items ≡ out.old.items ++ name_or_number number (atom_called atoms.now number)) }
 {
     match atom_name(atoms, number) {
         Some(name) => name_text(name.as_bytes(), out),
@@ -35,15 +36,6 @@ fn put_function(out: &mut Bytes, m: &Module<'_>, f: &Function<'_>) -> Result<(),
 {
     put_name(out, m.atoms(), f.name())?;
     put_marked(out, b"/", f.arity())
-}
-
-fn put_opcode(out: &mut Bytes, instr: &Instr) -> Result<(), NoMemory>
-    ensures { OnOk result (out.new.items ≡ out.old.items ++ row_name (row_with instr.now.op)) }
-{
-    match op_row(instr.op()) {
-        Some(row) => out.extend(row.name.as_bytes()),
-        None => Ok(()),
-    }
 }
 
 // Puts words and a register at the end.
@@ -91,7 +83,7 @@ fn put_line(
     put_function(out, m, f)?;
     put_marked(out, b" ", fault.place)?;
     out.push(b' ')?;
-    put_opcode(out, instr)?;
+    out.extend(instr.name().as_bytes())?;
     out.extend(b": ")?;
     put_reason(out, fault.reason)?;
     out.push(b'\n')

@@ -1,6 +1,6 @@
 //! What is wrong with a module.
 
-ghost use Rattle.std.specs.Prelude.{◌≡◌, ◌++◌, ◌<◌, All, Some, length, slice_get, IfOk, OnOk};
+ghost use Rattle.std.specs.Prelude.{◌≡◌, ◌++◌, ◌<◌, All, [], Some, length, slice_get, IfOk, OnOk};
 ghost use Rattle.std.specs.Option.{option_to_list};
 ghost use Rattle.label_fixpoint.specs.Typing.{IsLeast, typing_of};
 ghost use Rattle.func_split.specs.Functions.{Piece};
@@ -8,11 +8,14 @@ ghost use Rattle.flow_rules.specs.Flow.{meaning_of};
 ghost use Rattle.flow_rules.specs.FlowBody.{body_of};
 ghost use Rattle.flow_rules.specs.Reporting.{IsReport, faults_in, typed_faults};
 ghost use Rattle.flow_rules.specs.Reports.{report_of};
+ghost use Rattle.flow_rules.specs.Runs.{NeverStuck};
 ghost use Rattle.validator.specs.Reported.{AddsReport, IsIn};
 
 use beam_module::Module;
 use bk_base::{ItemList, NoMemory, Steps};
-use flow_rules::{Fault, FaultList, FlowRefusal, FnFlow, rounds_find_reports};
+use flow_rules::{
+    Fault, FaultList, FlowRefusal, FnFlow, accepted_modules_never_get_stuck, rounds_find_reports,
+};
 use label_fixpoint::{Flow, solve};
 use reg_state::State;
 use std::alloc::Global;
@@ -85,14 +88,17 @@ fn add_report<L>(
 /// operands, or where there are none, of each place that the least typing has a state for the first
 /// need that fails with it.
 ///
-/// It is refused for want of memory alone.
+/// Where it is empty, no run of the module is ever stuck. It is refused for want of memory alone.
 pub fn validate<L>(alloc: Global, m: &Module<'_>, steps: &mut Steps<L>) -> Result<Report, NoMemory>
     ensures report { IfOk result (IsReport m.now) }
     // What plans and rounds over all functions give.
     ensures told { IfOk result (λ report. report ≡ report_of m.now) }
     // So the report has a text.
     ensures named { IfOk result (All (IsIn m.now)) }
+    // A module that is accepted never gets stuck.
+    ensures never_stuck { IfOk result (λ report. report ≡ [] → NeverStuck m.now) }
 {
+    accepted_modules_never_get_stuck();
     let mut report = ItemList::new(alloc);
     'functions: for i in 0..m.functions() {
         add_report(alloc, m, i, &mut report, steps)?;

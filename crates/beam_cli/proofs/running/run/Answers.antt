@@ -5,6 +5,7 @@ use Rattle.beam_cli.specs.Asking.{asked}
 use Rattle.beam_cli.specs.Answer.{answer, asked_answer, answer_or_usage}
 use Rattle.beam_cli.specs.Outcome.{IsMessage, IsOutput, IsSaid, IsStatus}
 use Rattle.beam_cli.specs.Stopping.{status_of}
+use Rattle.beam_cli.proofs.Accepted.{accepts}
 use Rattle.beam_cli.proofs.Messages.{message_at}
 use Rattle.beam_cli.proofs.RoundTrips.{assembles, lists}
 use Rattle.beam_cli.proofs.running.run.Goals as goal
@@ -53,3 +54,15 @@ returns-clause-lists g c =
     let out : IsOutput c.status-in-Err.result (g.O.Sink.written c.args.out.now) (g.O.Sink.written c.args.out.now) (answer holds c.args.words.now) = search rules in
     let l = c.listings_are_assembled.ensures in
     lists (λ bytes v fits is. (l.output bytes v fits is, l.listable bytes v fits is, l.listing bytes v fits is)) holds c.args.words.now c.status-in-Err.result (g.O.Sink.written c.args.out.now) (g.O.Sink.written c.args.out.now) says out
+
+pub returns-in-Ok-emit-clause-accepts : goal.returns-in-Ok-emit-clause-accepts
+returns-in-Ok-emit-clause-accepts g c =
+    let holds : List ℕ → Option (List ℕ) = g.H.Host.holds c.args.host.now in
+    let says : IsStatus c.status.result (answer holds c.args.words.now) = search rules in
+    accepts c.accepted_files_are_safe.ensures holds c.args.words.now c.status.result says
+
+pub returns-clause-accepts : goal.returns-clause-accepts
+returns-clause-accepts g c =
+    let holds : List ℕ → Option (List ℕ) = g.H.Host.holds c.args.host.now in
+    let says : IsStatus c.status-in-Err.result (answer holds c.args.words.now) = search rules in
+    accepts c.accepted_files_are_safe.ensures holds c.args.words.now c.status-in-Err.result says
