@@ -1,3 +1,4 @@
 pub mod Shapes
 pub mod AtomSpelling
 pub mod EntrySpelling
+pub mod Written

@@ -3,4 +3,5 @@ pub mod Entries
 pub mod Shape
 pub mod Reading
 pub mod Text
+pub mod Canonical
 pub mod Refusal

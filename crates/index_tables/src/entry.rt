@@ -1,15 +1,17 @@
 //! The entries of the tables of words.
 
-ghost use Rattle.std.specs.Prelude.{◌≡◌};
+ghost use Rattle.std.specs.Prelude.{◌≡◌, ◌++◌, OnOk};
 ghost use Rattle.std.specs.List.{list_all};
 ghost use Rattle.bk_codec.specs.Reading.{Gives};
+ghost use Rattle.index_tables.specs.Canonical.{canonical_words};
 ghost use Rattle.index_tables.specs.Reading.{record_at, is_atom};
 ghost use Rattle.index_tables.specs.declared.refusal.TableRefusal.TheVariants as refusals;
 
 use crate::atoms::atom_name;
 use crate::refusal::TableRefusal;
 use crate::table::Atoms;
-use bk_base::Cursor;
+use crate::writing::put_words;
+use bk_base::{Bytes, Cursor, NoMemory};
 use bk_codec::word;
 
 /// A function of another module that the module calls.
@@ -66,6 +68,10 @@ pub trait Entry: Sized + Drop {
     fn names_atoms(&self, atoms: &Atoms) -> bool
         ensures { result ≡ list_all (is_atom atoms.now) (shape.atoms self.now) };
 
+    /// Puts its words at the end. Where memory is wanting a front of them may stand there.
+    fn put(&self, out: &mut Bytes) -> Result<(), NoMemory>
+        ensures { OnOk result (out.new.items ≡ out.old.items ++ canonical_words (shape.words self.now)) };
+
     ghost is_shape: { IsShape shape };
 }
 
@@ -89,6 +95,10 @@ impl Entry for Import {
     fn names_atoms(&self, atoms: &Atoms) -> bool {
         atom_name(atoms, self.module).is_some() && atom_name(atoms, self.name).is_some()
     }
+
+    fn put(&self, out: &mut Bytes) -> Result<(), NoMemory> {
+        put_words(out, &[self.module, self.name, self.arity])
+    }
 }
 
 impl Entry for Export {
@@ -110,6 +120,10 @@ impl Entry for Export {
 
     fn names_atoms(&self, atoms: &Atoms) -> bool {
         atom_name(atoms, self.name).is_some()
+    }
+
+    fn put(&self, out: &mut Bytes) -> Result<(), NoMemory> {
+        put_words(out, &[self.name, self.arity, self.label])
     }
 }
 
@@ -135,5 +149,19 @@ impl Entry for Fun {
 
     fn names_atoms(&self, atoms: &Atoms) -> bool {
         atom_name(atoms, self.name).is_some()
+    }
+
+    fn put(&self, out: &mut Bytes) -> Result<(), NoMemory> {
+        put_words(
+            out,
+            &[
+                self.name,
+                self.arity,
+                self.label,
+                self.index,
+                self.free,
+                self.unique,
+            ],
+        )
     }
 }

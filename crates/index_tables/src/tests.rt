@@ -151,3 +151,38 @@ fn atoms_are_found_by_number(rt: HostRuntime) -> Result<(), Fail> {
     assert!(rt; atom_name(&atoms, 0).is_none() && atom_name(&atoms, 2).is_none());
     Ok(())
 }
+
+#[test]
+fn tables_are_written_back(rt: HostRuntime) -> Result<(), Fail> {
+    let alloc = rt.alloc();
+    let payload = b"\0\0\0\x05\x01m\x02go\x06erlang\x0bmodule_info\x0fget_module_info";
+    let atoms = read_atoms(alloc, payload)?;
+    assert_eq!(rt; write_atoms(alloc, &atoms)?.as_slice(), payload.as_slice());
+    let none = read_atoms(alloc, b"\0\0\0\0")?;
+    assert_eq!(rt;
+        write_atoms(alloc, &none)?.as_slice(),
+        b"\0\0\0\0".as_slice()
+    );
+    let two_bytes = b"\0\0\0\x01\x02\xc3\xa9";
+    let atom = read_atoms(alloc, two_bytes)?;
+    assert_eq!(rt; write_atoms(alloc, &atom)?.as_slice(), two_bytes.as_slice());
+
+    let payload = b"\0\0\0\x02\0\0\0\x03\0\0\0\x05\0\0\0\x01\0\0\0\x03\0\0\0\x05\0\0\0\x02";
+    let imports = read_imports(alloc, payload, &atoms)?;
+    assert_eq!(rt;
+        write_imports(alloc, &imports)?.as_slice(),
+        payload.as_slice()
+    );
+
+    let payload = b"\0\0\0\x01\0\0\0\x04\x01\x02\x03\x04\xff\xff\xff\xff";
+    let exports = read_exports(alloc, payload, &atoms)?;
+    assert_eq!(rt;
+        write_exports(alloc, &exports)?.as_slice(),
+        payload.as_slice()
+    );
+
+    let payload = b"\0\0\0\x01\0\0\0\x02\0\0\0\x01\0\0\0\x02\0\0\0\0\0\0\0\0\0\0\0\0";
+    let funs = read_funs(alloc, payload, &atoms)?;
+    assert_eq!(rt; write_funs(alloc, &funs)?.as_slice(), payload.as_slice());
+    Ok(())
+}
