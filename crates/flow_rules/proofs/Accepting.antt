@@ -25,7 +25,7 @@ use Rattle.flow_rules.specs.FlowBody.{need_at}
 use Rattle.flow_rules.specs.KnownEdges.{first_known, known_edges}
 use Rattle.flow_rules.specs.Lawful.{first_fits}
 use Rattle.flow_rules.specs.Making.{ArePlans, body_with}
-use Rattle.flow_rules.specs.Members.{mapped_held}
+use Rattle.label_fixpoint.specs.Mapped.{mapped_held}
 use Rattle.flow_rules.specs.Reporting.{AreReported, IsFunctionReport, IsReport, IsTypedReport, faults_in, typed_faults}
 use Rattle.flow_rules.specs.Stating.{state_from}
 use Rattle.flow_rules.specs.Views.{state_viewed}

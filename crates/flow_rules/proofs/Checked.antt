@@ -1,7 +1,7 @@
 -- The needs of a plan, told from one state.
-use Rattle.std.proofs.Common.{◌≡◌, ◌∙◌, ℕ, zero, suc, Bool, true, Option, Some, None, List, [], ◌∷◌, ◌++◌, refl, sym, ap}
+use Rattle.std.proofs.Common.{◌≡◌, ◌∙◌, ℕ, zero, suc, Bool, true, Option, Some, None, option_map, List, [], ◌∷◌, ◌++◌, refl, sym, ap}
 use Rattle.std.specs.List.{list_all, slice_get}
-use Rattle.std.specs.Option.{option_or}
+use Rattle.std.specs.Option.{option_or, option_to_list}
 use Rattle.std.proofs.lemmas.Bool.{and_parts}
 use Rattle.op_table.specs.declared.action.Action.{Action}
 use Rattle.op_table.specs.declared.plans.Plan.{Plan}
@@ -10,6 +10,8 @@ use Rattle.action_rules.specs.declared.reason.Reason.{Reason}
 use Rattle.action_rules.specs.KindDomain.{kinds}
 use Rattle.action_rules.specs.Needs.{need, exit_need, plan_need}
 use Rattle.action_rules.specs.Steady.{needs_now, steady_needs}
+use Rattle.code_faults.specs.declared.fault.Fault.{Fault}
+use Rattle.code_faults.specs.Faults.{fault_at, faults_at}
 use Rattle.flow_rules.specs.Body.{plan_is_steady}
 
 pub steady_at : (plans : List Plan) (place : ℕ) (p : Plan) → list_all plan_is_steady plans ≡ true → slice_get plans place ≡ Some p → plan_is_steady p ≡ true
@@ -45,3 +47,10 @@ module _ (p : Plan) (has_next : Bool) (s : Known) (steady : plan_is_steady p ≡
 
   pub exit_is_left : None ≡ needs_now kinds p.before s → None ≡ needs_now kinds p.after s → exit_need has_next p.exit ≡ plan_need kinds has_next p s
   exit_is_left before after = ap (λ (next : Option Reason). option_or next (exit_need has_next p.exit)) after ∙ met_before before
+
+-- a need that is found, as a list of faults
+pub need_listed : (number place : ℕ) (o : Option Reason) (found : Option Fault) → found ≡ option_map (fault_at number place) o → option_to_list found ≡ faults_at number place o
+need_listed number place o found is = ap option_to_list is ∙ listed o where
+  listed : (r : Option Reason) → option_to_list (option_map (fault_at number place) r) ≡ faults_at number place r
+  listed None = refl
+  listed (Some why) = refl

@@ -8,10 +8,11 @@ use Rattle.op_table.specs.declared.plans.Plan.{Plan}
 use Rattle.op_table.specs.Rules.{exit_labels}
 use Rattle.reg_state.specs.States.{Known}
 use Rattle.label_fixpoint.specs.declared.edge.Edge.{Edge}
+use Rattle.label_fixpoint.specs.Cut.{onward}
 use Rattle.action_rules.specs.Needs.{goes_on}
 use Rattle.flow_rules.specs.Body.{Body}
-use Rattle.flow_rules.specs.KnownEdges.{caught, done, edge_to, edges_by, edges_to, entered, goes, handlers_in, has_next, jumps, known_edges, may_raise, onward, plan_edges, raise_edges, raises_of}
-use Rattle.flow_rules.specs.Members.{mapped_held}
+use Rattle.flow_rules.specs.KnownEdges.{caught, done, edge_to, edges_by, edges_to, entered, goes, handlers_in, has_next, jumps, known_edges, may_raise, plan_edges, raise_edges, raises_of}
+use Rattle.label_fixpoint.specs.Mapped.{mapped_held}
 
 pub held_at : {X : Type 0} (xs : List X) (k : ℕ) (x : X) → slice_get xs k ≡ Some x → Contains xs x
 held_at xs k x is = (k, slice_get_within xs k x is, get_or_from_slice_get xs k x x is)

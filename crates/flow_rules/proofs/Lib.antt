@@ -1,6 +1,10 @@
 pub mod Places
 pub mod Added
 pub mod Followed
+pub mod Headed
+pub mod Walked
+pub mod BlockAppended
+pub mod BlockReports
 pub mod Checked
 pub mod Joined
 pub mod Arriving
@@ -17,4 +21,6 @@ pub mod Stepping
 pub mod Accepting
 pub mod Running
 pub mod Misused
+pub mod Upper
+pub mod Exhibited
 pub mod Progress

@@ -1,5 +1,5 @@
 -- How runs of small modules begin, and the states in them.
-use Rattle.std.proofs.Common.{◌≡◌, ℕ, zero, suc, ◌<◌, ◌≤◌, ◌↔◌, true, Some, None, Ok, List, [], refl, arith}
+use Rattle.std.proofs.Common.{◌≡◌, ℕ, zero, suc, ◌<◌, ◌≤◌, ◌↔◌, true, Some, None, Ok, List, [], length, refl, arith}
 use Rattle.bk_base.specs.declared.tag_kind.TagKind.TheVariants.{Try}
 use Rattle.op_table.specs.Instruction.{Instruction}
 use Rattle.reg_state.specs.Store.{SlotOf}
@@ -20,8 +20,8 @@ use Rattle.flow_rules.specs.Examples.{function_with, module_with}
 
 -- code is split as it has to be where it splits into itself
 pub code_split : ((labels count : ℕ) (code : List Instruction) (s : SplitValue) → (split_of labels count code ≡ Ok s) ↔ IsSplitCode labels count code s)
-    → (s : SplitValue) → split_of s.labels 1 s.instrs ≡ Ok s → IsSplit s.labels s.instrs s.functions
-code_split law s e = ((law s.labels 1 s.instrs s).0 e).split
+    → (s : SplitValue) → split_of s.labels (length s.functions) s.instrs ≡ Ok s → IsSplit s.labels s.instrs s.functions
+code_split law s e = ((law s.labels (length s.functions) s.instrs s).0 e).split
 
 -- ---- states
 

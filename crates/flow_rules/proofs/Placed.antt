@@ -19,7 +19,7 @@ use Rattle.action_rules.specs.declared.reason.Reason.{Reason}
 use Rattle.code_faults.specs.Ending.{ends}
 use Rattle.flow_rules.specs.Body.{place_in}
 use Rattle.flow_rules.specs.Making.{HasPlan}
-use Rattle.flow_rules.specs.Machine.{function_at, goes_on_in, has_next_at, is_inside, label_place, plan_at, plan_in, plan_unless}
+use Rattle.flow_rules.specs.Machine.{function_at, has_next_in, has_next_at, is_inside, label_place, plan_at, found_plan, plan_or_fault}
 
 -- ---- lists
 
@@ -134,7 +134,7 @@ module _ (m : ModuleValue) (split : IsSplit m.code.labels m.code.instrs m.code.f
   function_here k below = here.found k below
 
   pub next_here : (k : ℕ) → k < length f.instrs → has_next_at m (f.first + k) ≡ nat_lt (k + 1) (length f.instrs)
-  next_here k below = ap (goes_on_in (f.first + k)) (function_here k below) ∙ next f.first k (length f.instrs) where
+  next_here k below = ap (has_next_in (f.first + k)) (function_here k below) ∙ next f.first k (length f.instrs) where
     next : (first k size : ℕ) → (nat_le first (first + k + 1) && nat_lt (first + k + 1) (first + size)) ≡ nat_lt (k + 1) size
     next first k size = grind (arith, nat_tests)
 
@@ -142,10 +142,10 @@ module _ (m : ModuleValue) (split : IsSplit m.code.labels m.code.instrs m.code.f
   plan_here k i p is has =
       let below = slice_get_within f.instrs k i is in
       let instr = instr_here k below ∙ is in
-      ap (λ (g : Option Piece). plan_in m g (slice_get m.code.instrs (f.first + k))) (function_here k below)
-      ∙ (ap (plan_in m (Some f)) instr
-      ∙ (ap (λ (why : Option Reason). plan_unless why (plan_of i (ends m i))) has.sound
-      ∙ ap (plan_unless None) has.plan))
+      ap (λ (g : Option Piece). found_plan m g (slice_get m.code.instrs (f.first + k))) (function_here k below)
+      ∙ (ap (found_plan m (Some f)) instr
+      ∙ (ap (λ (why : Option Reason). plan_or_fault why (plan_of i (ends m i))) has.sound
+      ∙ ap (plan_or_fault None) has.plan))
 
   mark_here : (k : ℕ) → k < length f.instrs → slice_get (marks_of m.code.instrs) (f.first + k) ≡ slice_get (marks_of f.instrs) k
   mark_here k below =

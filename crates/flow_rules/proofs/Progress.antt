@@ -16,8 +16,8 @@ use Rattle.action_rules.specs.declared.reason.Reason.{Reason}
 use Rattle.code_faults.specs.Ending.{ends}
 use Rattle.code_faults.specs.Operands.{instruction_fault}
 use Rattle.flow_rules.specs.Values.{Contents, Frame, Local}
-use Rattle.flow_rules.specs.Machine.{Activation, Machine, function_at, has_next_at, plan_at, plan_in, plan_unless, stop, stop_by}
-use Rattle.flow_rules.specs.Outcomes.{Choice, Outcome, Way, begun, can_raise, caught_in, finished, handler, jumps_to, left, outcome, outcome_by, outcome_of, raised, raises_at_exit, resumed, returned}
+use Rattle.flow_rules.specs.Machine.{Activation, Machine, function_at, has_next_at, plan_at, found_plan, plan_or_fault, stop, stop_by}
+use Rattle.flow_rules.specs.Outcomes.{Choice, Outcome, Way, before_done, can_raise, caught_in, all_done, handler, jumps_to, at_exit, outcome, outcome_by, outcome_of, raised, raises_itself, resumed, returned}
 use Rattle.flow_rules.specs.Outcomes.Outcome.{Goes, Ends, Never}
 use Rattle.flow_rules.specs.Runs.{AreSteps, HasOutcome, IsRun}
 
@@ -26,7 +26,7 @@ all_at P [] all k x is = absurd cc
 all_at P (y ∷ xs) all zero x is = subst P (same_Some y x is) all.0
 all_at P (y ∷ xs) all (suc k) x is = all_at P xs all.1 k x is
 
-planned : (why : Option Reason) (r : Result Plan PlanRefusal) (p : Plan) → plan_unless why r ≡ Ok p → r ≡ Ok p
+planned : (why : Option Reason) (r : Result Plan PlanRefusal) (p : Plan) → plan_or_fault why r ≡ Ok p → r ≡ Ok p
 planned (Some why) r p is = absurd cc
 planned None (Ok q) p is = cc
 planned None (Err refusal) p is = absurd cc
@@ -37,7 +37,7 @@ record IsPlanned (m : ModuleValue) (o : Option Instruction) (p : Plan) : Type 0 
   there : o ≡ Some instr
   plan : plan_of instr (ends m instr) ≡ Ok p
 
-planned_in : (m : ModuleValue) (f : Option Piece) (o : Option Instruction) (p : Plan) → plan_in m f o ≡ Ok p → IsPlanned m o p
+planned_in : (m : ModuleValue) (f : Option Piece) (o : Option Instruction) (p : Plan) → found_plan m f o ≡ Ok p → IsPlanned m o p
 planned_in m None o p is = absurd cc
 planned_in m (Some f) None p is = absurd cc
 planned_in m (Some f) (Some i) p is = record { instr = i; there = refl; plan = planned (instruction_fault m f i) (plan_of i (ends m i)) p is }
@@ -78,23 +78,23 @@ module _ (leads : (i : Instruction) (ends : Bool) (p : Plan) → IsInstruction i
   jumps_good (Some label) local waiting waits = waits
 
   module _ (s : Machine) (waits : Waits s.waiting) where
-    left_good : (p : Plan) (terms : List ℕ) (e : Exit) → plan_at m s.place ≡ Ok p → Good (left m s p terms e)
-    left_good p terms exits.Next is = waits
-    left_good p terms (exits.Labels labels) is = tt
-    left_good p terms (exits.Enter label) is = ((p, is), waits)
-    left_good p terms (exits.TailLocal label) is = waits
-    left_good p terms exits.TailExt is = returned_good s.waiting _ waits
-    left_good p terms exits.Return is = returned_good s.waiting _ waits
-    left_good p terms exits.End is = tt
+    exit_good : (p : Plan) (terms : List ℕ) (e : Exit) → plan_at m s.place ≡ Ok p → Good (at_exit m s p terms e)
+    exit_good p terms exits.Next is = waits
+    exit_good p terms (exits.Labels labels) is = tt
+    exit_good p terms (exits.Enter label) is = ((p, is), waits)
+    exit_good p terms (exits.TailLocal label) is = waits
+    exit_good p terms exits.TailExt is = returned_good s.waiting _ waits
+    exit_good p terms exits.Return is = returned_good s.waiting _ waits
+    exit_good p terms exits.End is = tt
 
-    raise_good : (p : Plan) (terms : List ℕ) (can : Bool) → Good (if can then raised m (begun p terms s.local).frame s.waiting else Never)
-    raise_good p terms true = raised_good s.waiting (begun p terms s.local).frame waits
+    raise_good : (p : Plan) (terms : List ℕ) (can : Bool) → Good (if can then raised m (before_done p terms s.local).frame s.waiting else Never)
+    raise_good p terms true = raised_good s.waiting (before_done p terms s.local).frame waits
     raise_good p terms false = tt
 
     of_good : (p : Plan) (terms : List ℕ) (way : Way) → plan_at m s.place ≡ Ok p → Good (outcome_of m s p terms way)
-    of_good p terms Way.Done is = left_good p terms p.exit is
-    of_good p terms (Way.Jump k) is = jumps_good (slice_get (exit_labels p.exit) k) (finished p terms s.local) s.waiting waits
-    of_good p terms (Way.Fail k) is = jumps_good (slice_get p.fails k) (begun p terms s.local) s.waiting waits
+    of_good p terms Way.Done is = exit_good p terms p.exit is
+    of_good p terms (Way.Jump k) is = jumps_good (slice_get (exit_labels p.exit) k) (all_done p terms s.local) s.waiting waits
+    of_good p terms (Way.Fail k) is = jumps_good (slice_get p.fails k) (before_done p terms s.local) s.waiting waits
     of_good p terms Way.Raise is = raise_good p terms (can_raise p)
 
     outcome_waits : (c : Choice) → Good (outcome m s c)
@@ -129,32 +129,32 @@ module _ (leads : (i : Instruction) (ends : Bool) (p : Plan) → IsInstruction i
 
     by_raise : can_raise p ≡ true → HasOutcome m s
     by_raise can = by_way Way.Raise (λ never.
-        let goes : raised m (begun p [] s.local).frame s.waiting ≡ Never = ap (λ (b : Bool). if b then raised m (begun p [] s.local).frame s.waiting else Never) (sym can) ∙ never in
-        raised_goes s.waiting (begun p [] s.local).frame goes)
+        let goes : raised m (before_done p [] s.local).frame s.waiting ≡ Never = ap (λ (b : Bool). if b then raised m (before_done p [] s.local).frame s.waiting else Never) (sym can) ∙ never in
+        raised_goes s.waiting (before_done p [] s.local).frame goes)
 
     by_fail : (fails : List ℕ) → p.fails ≡ fails → p.raises ≡ false → p.exit ≡ exits.Labels [] → HasOutcome m s
     by_fail [] none quiet exit =
         let i = planned_in m (function_at m s.place) (slice_get m.code.instrs s.place) p is in
         absurd (leads i.instr (ends m i.instr) p (all_at IsInstruction m.code.instrs instrs s.place i.instr i.there) i.plan exit quiet none)
     by_fail (label ∷ labels) some quiet exit = by_way (Way.Fail 0) (λ never.
-        let goes : jumps_to m (slice_get (label ∷ labels) 0) (begun p [] s.local) s.waiting ≡ Never = ap (λ (fails : List ℕ). jumps_to m (slice_get fails 0) (begun p [] s.local) s.waiting) (sym some) ∙ never in
+        let goes : jumps_to m (slice_get (label ∷ labels) 0) (before_done p [] s.local) s.waiting ≡ Never = ap (λ (fails : List ℕ). jumps_to m (slice_get fails 0) (before_done p [] s.local) s.waiting) (sym some) ∙ never in
         absurd cc)
 
     by_labels : (raises : Bool) → p.raises ≡ raises → p.exit ≡ exits.Labels [] → HasOutcome m s
-    by_labels true own exit = by_raise (ap (λ (b : Bool). b || raises_at_exit p.exit) own)
+    by_labels true own exit = by_raise (ap (λ (b : Bool). b || raises_itself p.exit) own)
     by_labels false own exit = by_fail p.fails refl own exit
 
     by_exit : (e : Exit) → p.exit ≡ e → HasOutcome m s
-    by_exit exits.Next exit = by_way Way.Done (λ never. let goes = ap (left m s p []) (sym exit) ∙ never in absurd cc)
+    by_exit exits.Next exit = by_way Way.Done (λ never. let goes = ap (at_exit m s p []) (sym exit) ∙ never in absurd cc)
     by_exit (exits.Labels []) exit = by_labels p.raises refl exit
     by_exit (exits.Labels (label ∷ labels)) exit = by_way (Way.Jump 0) (λ never.
-        let goes : jumps_to m (slice_get (label ∷ labels) 0) (finished p [] s.local) s.waiting ≡ Never = ap (λ (e : Exit). jumps_to m (slice_get (exit_labels e) 0) (finished p [] s.local) s.waiting) (sym exit) ∙ never in
+        let goes : jumps_to m (slice_get (label ∷ labels) 0) (all_done p [] s.local) s.waiting ≡ Never = ap (λ (e : Exit). jumps_to m (slice_get (exit_labels e) 0) (all_done p [] s.local) s.waiting) (sym exit) ∙ never in
         absurd cc)
-    by_exit (exits.Enter label) exit = by_way Way.Done (λ never. let goes = ap (left m s p []) (sym exit) ∙ never in absurd cc)
-    by_exit (exits.TailLocal label) exit = by_way Way.Done (λ never. let goes = ap (left m s p []) (sym exit) ∙ never in absurd cc)
-    by_exit exits.TailExt exit = by_way Way.Done (λ never. returned_goes s.waiting _ waits (ap (left m s p []) (sym exit) ∙ never))
-    by_exit exits.Return exit = by_way Way.Done (λ never. returned_goes s.waiting _ waits (ap (left m s p []) (sym exit) ∙ never))
-    by_exit exits.End exit = by_raise (or_right p.raises (raises_at_exit p.exit) (ap raises_at_exit exit))
+    by_exit (exits.Enter label) exit = by_way Way.Done (λ never. let goes = ap (at_exit m s p []) (sym exit) ∙ never in absurd cc)
+    by_exit (exits.TailLocal label) exit = by_way Way.Done (λ never. let goes = ap (at_exit m s p []) (sym exit) ∙ never in absurd cc)
+    by_exit exits.TailExt exit = by_way Way.Done (λ never. returned_goes s.waiting _ waits (ap (at_exit m s p []) (sym exit) ∙ never))
+    by_exit exits.Return exit = by_way Way.Done (λ never. returned_goes s.waiting _ waits (ap (at_exit m s p []) (sym exit) ∙ never))
+    by_exit exits.End exit = by_raise (or_right p.raises (raises_itself p.exit) (ap raises_itself exit))
 
   has_outcome : (s : Machine) → Waits s.waiting → stop m s ≡ None → HasOutcome m s
   has_outcome s waits free = go (plan_at m s.place) refl where

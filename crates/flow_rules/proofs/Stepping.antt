@@ -50,7 +50,7 @@ use Rattle.flow_rules.specs.Rising.{lowest_same}
 use Rattle.flow_rules.specs.Values.{Contents, Frame, Local, is_term, values}
 use Rattle.flow_rules.specs.Values.Value.{Term, Mark}
 use Rattle.flow_rules.specs.Machine.{Activation, Machine, has_next_at, label_place, plan_at, stop, stop_by}
-use Rattle.flow_rules.specs.Outcomes.{Choice, Outcome, Way, after_call, alone, bare, begun, caught_in, finished, handler, jumps_to, left, outcome, outcome_by, outcome_of, raised, raises_at_exit, resumed, returned, terms_left}
+use Rattle.flow_rules.specs.Outcomes.{Choice, Outcome, Way, after_call, alone, bare, before_done, caught_in, all_done, handler, jumps_to, at_exit, outcome, outcome_by, outcome_of, raised, raises_itself, resumed, returned, terms_left}
 use Rattle.flow_rules.specs.Outcomes.Outcome.{Goes, Ends, Never}
 use Rattle.flow_rules.specs.Conforming.{AllTyped, Conforms, HasKnown, IsCall, IsKnown, Typed, tag_is_own, tags_are_own}
 use Rattle.flow_rules.proofs.Agreeing.{agrees_above, effects_own, values_agree}
@@ -355,66 +355,66 @@ module _ (laws : Laws) (m : ModuleValue) (split : IsSplit m.code.labels m.code.i
 
     -- ---- what the plan does
 
-    begun_agrees : (terms : List ℕ) → StoreRel Conforms (begun plan terms s.local) (entered plan is.known)
-    begun_agrees terms = effects_related values_agree plan.before terms [] s.local is.known is.local
+    before_agrees : (terms : List ℕ) → StoreRel Conforms (before_done plan terms s.local) (entered plan is.known)
+    before_agrees terms = effects_related values_agree plan.before terms [] s.local is.known is.local
 
-    begun_own : (terms : List ℕ) → tags_are_own (body here).bounds (begun plan terms s.local).frame ≡ true
-    begun_own terms = effects_own (body here).bounds plan.before terms s.local (fit here).before is.tags
+    before_own : (terms : List ℕ) → tags_are_own (body here).bounds (before_done plan terms s.local).frame ≡ true
+    before_own terms = effects_own (body here).bounds plan.before terms s.local (fit here).before is.tags
 
-    finished_agrees : (terms : List ℕ) → StoreRel Conforms (finished plan terms s.local) (done plan is.known)
-    finished_agrees terms = effects_related values_agree plan.after (terms_left plan terms) [] (begun plan terms s.local) (entered plan is.known) (begun_agrees terms)
+    all_agrees : (terms : List ℕ) → StoreRel Conforms (all_done plan terms s.local) (done plan is.known)
+    all_agrees terms = effects_related values_agree plan.after (terms_left plan terms) [] (before_done plan terms s.local) (entered plan is.known) (before_agrees terms)
 
-    finished_own : (terms : List ℕ) → tags_are_own (body here).bounds (finished plan terms s.local).frame ≡ true
-    finished_own terms = effects_own (body here).bounds plan.after (terms_left plan terms) (begun plan terms s.local) (fit here).after (begun_own terms)
+    all_own : (terms : List ℕ) → tags_are_own (body here).bounds (all_done plan terms s.local).frame ≡ true
+    all_own terms = effects_own (body here).bounds plan.after (terms_left plan terms) (before_done plan terms s.local) (fit here).after (before_own terms)
 
     -- with these actions first
     met_by : (list : List Action) → plan.before ≡ list → needs values (list ++ plan.after) [] s.local ≡ None
     met_by list before = subst (λ (first : List Action). needs values (first ++ plan.after) [] s.local ≡ None) before values_met
 
-    begun_by : (list : List Action) → plan.before ≡ list → (terms : List ℕ) → begun plan terms s.local ≡ effects values list terms s.local
-    begun_by list before terms = ap (λ (first : List Action). effects values first terms s.local) before
+    before_by : (list : List Action) → plan.before ≡ list → (terms : List ℕ) → before_done plan terms s.local ≡ effects values list terms s.local
+    before_by list before terms = ap (λ (first : List Action). effects values first terms s.local) before
 
     -- ---- ways
 
-    jumps_well : (terms : List ℕ) (o : Option ℕ) (k : ℕ) → slice_get (exit_labels plan.exit) k ≡ o → Good (jumps_to m o (finished plan terms s.local) s.waiting)
+    jumps_well : (terms : List ℕ) (o : Option ℕ) (k : ℕ) → slice_get (exit_labels plan.exit) k ≡ o → Good (jumps_to m o (all_done plan terms s.local) s.waiting)
     jumps_well terms None k at = tt
     jumps_well terms (Some label) k at =
         let edge = exit_edge (body here) is.at plan is.known here.plan_is label (held_at (exit_labels plan.exit) k label at) in
-        arrives_at here label (done plan is.known) (follows here _ edge) (finished plan terms s.local) (finished_agrees terms) (finished_own terms) s.waiting is.waiting
+        arrives_at here label (done plan is.known) (follows here _ edge) (all_done plan terms s.local) (all_agrees terms) (all_own terms) s.waiting is.waiting
 
-    fails_well : (terms : List ℕ) (o : Option ℕ) (k : ℕ) → slice_get plan.fails k ≡ o → Good (jumps_to m o (begun plan terms s.local) s.waiting)
+    fails_well : (terms : List ℕ) (o : Option ℕ) (k : ℕ) → slice_get plan.fails k ≡ o → Good (jumps_to m o (before_done plan terms s.local) s.waiting)
     fails_well terms None k at = tt
     fails_well terms (Some label) k at =
         let edge = fail_edge (body here) is.at plan is.known here.plan_is label (held_at plan.fails k label at) in
-        arrives_at here label (entered plan is.known) (follows here _ edge) (begun plan terms s.local) (begun_agrees terms) (begun_own terms) s.waiting is.waiting
+        arrives_at here label (entered plan is.known) (follows here _ edge) (before_done plan terms s.local) (before_agrees terms) (before_own terms) s.waiting is.waiting
 
     -- after a tail call there is no frame
-    leaves_no_frame : (terms : List ℕ) (n : ℕ) → Replaces n plan → (begun plan terms s.local).frame ≡ Absent
+    leaves_no_frame : (terms : List ℕ) (n : ℕ) → Replaces n plan → (before_done plan terms s.local).frame ≡ Absent
     leaves_no_frame terms n replaces = elim replaces.leaves [
       | inl none ↦
           let before = replaces.before ∙ ap (λ (a : Action). acts.Live n ∷ a ∷ []) none in
           let met = met_by (acts.Live n ∷ acts.NoFrame ∷ []) before in
-          ap (λ (l : Local). l.frame) (begun_by _ before terms) ∙ absent s.local.frame (both_met _ _ (both_met _ _ met).1).0
+          ap (λ (l : Local). l.frame) (before_by _ before terms) ∙ absent s.local.frame (both_met _ _ (both_met _ _ met).1).0
       | inr drops ↦
           let before = replaces.before ∙ ap (λ (a : Action). acts.Live n ∷ a ∷ []) drops.1 in
-          ap (λ (l : Local). l.frame) (begun_by (acts.Live n ∷ acts.DropFrame drops.0 ∷ []) before terms)
+          ap (λ (l : Local). l.frame) (before_by (acts.Live n ∷ acts.DropFrame drops.0 ∷ []) before terms)
     ] where
       absent : (frame : Frame) → no_frame frame ≡ None → frame ≡ Absent
       absent Absent met = refl
       absent (Slots ss) met = absurd cc
       absent (Unknown why) met = elim why [ ]
 
-    leaves_x : (terms : List ℕ) (n : ℕ) → Replaces n plan → (begun plan terms s.local).x ≡ s.local.x
+    leaves_x : (terms : List ℕ) (n : ℕ) → Replaces n plan → (before_done plan terms s.local).x ≡ s.local.x
     leaves_x terms n replaces = elim replaces.leaves [
-      | inl none ↦ ap (λ (l : Local). l.x) (begun_by (acts.Live n ∷ acts.NoFrame ∷ []) (replaces.before ∙ ap (λ (a : Action). acts.Live n ∷ a ∷ []) none) terms)
-      | inr drops ↦ ap (λ (l : Local). l.x) (begun_by (acts.Live n ∷ acts.DropFrame drops.0 ∷ []) (replaces.before ∙ ap (λ (a : Action). acts.Live n ∷ a ∷ []) drops.1) terms)
+      | inl none ↦ ap (λ (l : Local). l.x) (before_by (acts.Live n ∷ acts.NoFrame ∷ []) (replaces.before ∙ ap (λ (a : Action). acts.Live n ∷ a ∷ []) none) terms)
+      | inr drops ↦ ap (λ (l : Local). l.x) (before_by (acts.Live n ∷ acts.DropFrame drops.0 ∷ []) (replaces.before ∙ ap (λ (a : Action). acts.Live n ∷ a ∷ []) drops.1) terms)
     ]
 
-    raises_or_not : (terms : List ℕ) (i : Instruction) (e : Exit) → plan.exit ≡ e → LeavesBy i e plan → (raises : Bool) → plan.raises ≡ raises → Good (if raises || raises_at_exit e then raised m (begun plan terms s.local).frame s.waiting else Never)
+    raises_or_not : (terms : List ℕ) (i : Instruction) (e : Exit) → plan.exit ≡ e → LeavesBy i e plan → (raises : Bool) → plan.raises ≡ raises → Good (if raises || raises_itself e then raised m (before_done plan terms s.local).frame s.waiting else Never)
     raises_or_not terms i e exit leave true own =
-        raises_well here (ap (λ (b : Bool). b || exit_raises plan.exit) own) (begun plan terms s.local).frame (begun_agrees terms).frame (begun_own terms) s.waiting is.waiting
+        raises_well here (ap (λ (b : Bool). b || exit_raises plan.exit) own) (before_done plan terms s.local).frame (before_agrees terms).frame (before_own terms) s.waiting is.waiting
     raises_or_not terms i exits.End exit leave false own =
-        raises_well here (or_right plan.raises (exit_raises plan.exit) (ap exit_raises exit)) (begun plan terms s.local).frame (begun_agrees terms).frame (begun_own terms) s.waiting is.waiting
+        raises_well here (or_right plan.raises (exit_raises plan.exit) (ap exit_raises exit)) (before_done plan terms s.local).frame (before_agrees terms).frame (before_own terms) s.waiting is.waiting
     raises_or_not terms i exits.TailExt exit leave false own =
         subst (λ (frame : Frame). Good (raised m frame s.waiting)) (sym (leaves_no_frame terms leave.arguments leave.replaces)) (unwinds s.waiting is.waiting)
     raises_or_not terms i exits.Next exit leave false own = tt
@@ -425,19 +425,19 @@ module _ (laws : Laws) (m : ModuleValue) (split : IsSplit m.code.labels m.code.i
 
     -- ---- exits
 
-    goes_next : (terms : List ℕ) → goes_on plan.exit ≡ true → Good (Goes (record { place = s.place + 1; local = finished plan terms s.local; waiting = s.waiting }))
+    goes_next : (terms : List ℕ) → goes_on plan.exit ≡ true → Good (Goes (record { place = s.place + 1; local = all_done plan terms s.local; waiting = s.waiting }))
     goes_next terms on =
         let edge = next_edge (body here) is.at plan is.known here.plan_is on (next_there here on) in
         let place = is.place in
-        arrives here (is.at + 1) (done plan is.known) (follows here _ edge) (finished plan terms s.local) (finished_agrees terms) (finished_own terms) s.waiting is.waiting (s.place + 1) (omega (arith, place))
+        arrives here (is.at + 1) (done plan is.known) (follows here _ edge) (all_done plan terms s.local) (all_agrees terms) (all_own terms) s.waiting is.waiting (s.place + 1) (omega (arith, place))
 
-    goes_in : (terms : List ℕ) (i : Instruction) → HasPlan m is.function i plan → (label : ℕ) → plan.exit ≡ exits.Enter label → Enters i label plan → Good (left m s plan terms (exits.Enter label))
+    goes_in : (terms : List ℕ) (i : Instruction) → HasPlan m is.function i plan → (label : ℕ) → plan.exit ≡ exits.Enter label → Enters i label plan → Good (at_exit m s plan terms (exits.Enter label))
     goes_in terms i has label exit enters =
         let n = arguments_of i in
         let met = met_by (acts.Live n ∷ acts.InFrame ∷ acts.FullY ∷ []) enters.before in
         let live = arguments_live s.local.x n (both_met _ _ met).0 in
-        let same : (begun plan terms s.local).x ≡ s.local.x = ap (λ (l : Local). l.x) (begun_by (acts.Live n ∷ acts.InFrame ∷ acts.FullY ∷ []) enters.before terms) in
-        let call : IsCall m typed (record { place = s.place; frame = (begun plan terms s.local).frame }) = record {
+        let same : (before_done plan terms s.local).x ≡ s.local.x = ap (λ (l : Local). l.x) (before_by (acts.Live n ∷ acts.InFrame ∷ acts.FullY ∷ []) enters.before terms) in
+        let call : IsCall m typed (record { place = s.place; frame = (before_done plan terms s.local).frame }) = record {
           number = is.number;
           function = is.function;
           is_there = is.is_there;
@@ -449,30 +449,30 @@ module _ (laws : Laws) (m : ModuleValue) (split : IsSplit m.code.labels m.code.i
           enters = exit;
           known = is.known;
           known_is = is.known_is;
-          frame = (begun_agrees terms).frame;
-          tags = begun_own terms;
+          frame = (before_agrees terms).frame;
+          tags = before_own terms;
         } in
         let begin = begins m split label n (called laws m is.function i plan has label enters.calls) in
-        enters_well label n begin (begun plan terms s.local).x (λ k below. ap (λ (x : ℕ → Contents). is_term (x k)) same ∙ live k below) (record { place = s.place; frame = (begun plan terms s.local).frame } ∷ s.waiting) (call, is.waiting)
+        enters_well label n begin (before_done plan terms s.local).x (λ k below. ap (λ (x : ℕ → Contents). is_term (x k)) same ∙ live k below) (record { place = s.place; frame = (before_done plan terms s.local).frame } ∷ s.waiting) (call, is.waiting)
 
-    goes_over : (terms : List ℕ) (i : Instruction) → HasPlan m is.function i plan → (label : ℕ) → LeavesBy i (exits.TailLocal label) plan → Good (left m s plan terms (exits.TailLocal label))
+    goes_over : (terms : List ℕ) (i : Instruction) → HasPlan m is.function i plan → (label : ℕ) → LeavesBy i (exits.TailLocal label) plan → Good (at_exit m s plan terms (exits.TailLocal label))
     goes_over terms i has label leave =
         let n = arguments_of i in
         let same = leaves_x terms n leave.replaces in
         let met = met_by (acts.Live n ∷ leave.replaces.leave ∷ []) leave.replaces.before in
         let live = arguments_live s.local.x n (both_met _ _ met).0 in
         let begin = begins m split label n (called laws m is.function i plan has label leave.calls) in
-        enters_well label n begin (begun plan terms s.local).x (λ k below. ap (λ (x : ℕ → Contents). is_term (x k)) same ∙ live k below) s.waiting is.waiting
+        enters_well label n begin (before_done plan terms s.local).x (λ k below. ap (λ (x : ℕ → Contents). is_term (x k)) same ∙ live k below) s.waiting is.waiting
 
-    goes_back : (terms : List ℕ) (i : Instruction) → LeavesBy i exits.Return plan → Good (left m s plan terms exits.Return)
+    goes_back : (terms : List ℕ) (i : Instruction) → LeavesBy i exits.Return plan → Good (at_exit m s plan terms exits.Return)
     goes_back terms i leave =
         let list = acts.NoFrame ∷ acts.Read (sources.Reg (regs.X 0)) ∷ [] in
         let met = met_by list leave.before in
-        let same : (begun plan terms s.local).x ≡ s.local.x = ap (λ (l : Local). l.x) (begun_by list leave.before terms) in
+        let same : (before_done plan terms s.local).x ≡ s.local.x = ap (λ (l : Local). l.x) (before_by list leave.before terms) in
         let term = checked_is (is_term (s.local.x 0)) _ (both_met _ _ (both_met _ _ met).1).0 in
-        returns_well s.waiting is.waiting ((begun plan terms s.local).x 0) (ap (λ (x : ℕ → Contents). is_term (x 0)) same ∙ term)
+        returns_well s.waiting is.waiting ((before_done plan terms s.local).x 0) (ap (λ (x : ℕ → Contents). is_term (x 0)) same ∙ term)
 
-    leaves_well : (terms : List ℕ) (i : Instruction) → HasPlan m is.function i plan → (e : Exit) → plan.exit ≡ e → LeavesBy i e plan → Good (left m s plan terms e)
+    leaves_well : (terms : List ℕ) (i : Instruction) → HasPlan m is.function i plan → (e : Exit) → plan.exit ≡ e → LeavesBy i e plan → Good (at_exit m s plan terms e)
     leaves_well terms i has exits.Next exit leave = goes_next terms (ap goes_on exit)
     leaves_well terms i has (exits.Labels labels) exit leave = tt
     leaves_well terms i has (exits.Enter label) exit leave = goes_in terms i has label exit leave

@@ -16,11 +16,12 @@ use Rattle.reg_state.specs.Store.SlotOf.{Holds, Tagged}
 use Rattle.reg_state.specs.Store.FrameOf.{Absent, Slots, Unknown}
 use Rattle.reg_state.specs.States.{Known}
 use Rattle.label_fixpoint.specs.declared.edge.Edge.{Edge}
+use Rattle.label_fixpoint.specs.Cut.{onward}
 use Rattle.action_rules.specs.Fitting.{Bounds, action_fits, slot_fits, frame_fits, is_handler, Fits}
 use Rattle.action_rules.specs.FittingKept.{known_effects_fit}
 use Rattle.flow_rules.specs.Body.{Body, label_fits, plan_fits, body_fits}
 use Rattle.action_rules.specs.Needs.{goes_on}
-use Rattle.flow_rules.specs.KnownEdges.{edge_to, edges_to, mark_alone, caught, entered, done, lowest, handlers_in, raise_edges, may_raise, raises_of, jumps, has_next, goes, onward, edges_by, known_edges}
+use Rattle.flow_rules.specs.KnownEdges.{edge_to, edges_to, mark_alone, caught, entered, done, lowest, handlers_in, raise_edges, may_raise, raises_of, jumps, has_next, goes, edges_by, known_edges}
 
 -- ---- what it says that a body or a plan fits
 
@@ -138,7 +139,7 @@ module _ (b : Body) where
     go true = edges_to_fit (handlers_in b.bounds.handlers (entered p s).frame) (caught (entered p s).frame) (handlers_fit b body (entered p s).frame frame) (caught_fits b body (entered p s).frame frame)
     go false = All-nil (FitEdge b)
 
-  jumps_fit : FitBody b → (p : Plan) → FitPlan b p → (s : Known) → Fits b.bounds s → All (FitEdge b) (jumps b p s)
+  pub jumps_fit : FitBody b → (p : Plan) → FitPlan b p → (s : Known) → Fits b.bounds s → All (FitEdge b) (jumps b p s)
   jumps_fit body p plan s fit =
       let fails = edges_to_fit p.fails (entered p s) plan.fails (entered_fits b p plan s fit) in
       let exits = edges_to_fit (exit_labels p.exit) (done p s) plan.exits (done_fits b p plan s fit) in

@@ -1,4 +1,4 @@
--- What a list of edges gains, as what is known at their targets.
+-- What a list of edges gains, as what is known at their targets, and what another list gains.
 use Rattle.std.specs.Prelude.{◌≡◌, List, ◌++◌, map}
 use Rattle.reg_state.specs.declared.state.State.{State}
 use Rattle.reg_state.specs.States.{Known}
@@ -12,3 +12,7 @@ Gains before wanted after = (added : List (Edge State)) × (after ≡ before ++ 
 -- the first of them are
 abbrev pub GainsPart : List (Edge State) → List (Edge Known) → List (Edge State) → Type 0
 GainsPart before wanted after = (part rest : List (Edge Known)) × (wanted ≡ part ++ rest) × Gains before part after
+
+-- the first of the wanted elements are put at the end
+abbrev pub AddsPart : {A : Type 0} → List A → List A → List A → Type 0
+AddsPart {A} before wanted after = (part rest : List A) × (wanted ≡ part ++ rest) × (after ≡ before ++ part)

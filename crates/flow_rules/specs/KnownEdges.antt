@@ -11,6 +11,7 @@ use Rattle.reg_state.specs.Store.SlotOf.{Holds, Tagged}
 use Rattle.reg_state.specs.Store.FrameOf.{Absent, Slots, Unknown}
 use Rattle.reg_state.specs.States.{Known}
 use Rattle.label_fixpoint.specs.declared.edge.Edge.{Edge}
+use Rattle.label_fixpoint.specs.Cut.{onward}
 use Rattle.action_rules.specs.Known.{known_effects}
 use Rattle.action_rules.specs.Needs.{goes_on}
 use Rattle.flow_rules.specs.Body.{Body}
@@ -95,10 +96,6 @@ has_next b place = nat_lt (place + 1) (length b.plans)
 abbrev pub goes : Body → ℕ → Plan → Known → Option Known
 goes b place p s = if goes_on p.exit && has_next b place then Some (done p s) else None
 
-abbrev pub onward : ℕ → Option Known → List (Edge Known)
-onward place None = []
-onward place (Some s) = edge_to place s ∷ []
-
 abbrev pub plan_edges : Body → ℕ → Plan → Known → List (Edge Known)
 plan_edges b place p s = jumps b p s ++ onward (place + 1) (goes b place p s)
 
@@ -108,3 +105,21 @@ edges_by b place (Some p) s = plan_edges b place p s
 
 abbrev pub known_edges : Body → ℕ → Known → List (Edge Known)
 known_edges b place s = edges_by b place (slice_get b.plans place) s
+
+-- ---- the edges of a place apart
+
+abbrev pub jumps_by : Body → Option Plan → Known → List (Edge Known)
+jumps_by b None s = []
+jumps_by b (Some p) s = jumps b p s
+
+-- those to labels
+abbrev pub jumps_at : Body → ℕ → Known → List (Edge Known)
+jumps_at b place s = jumps_by b (slice_get b.plans place) s
+
+abbrev pub goes_by : Body → ℕ → Option Plan → Known → Option Known
+goes_by b place None s = None
+goes_by b place (Some p) s = goes b place p s
+
+-- what the next place is entered with
+abbrev pub goes_at : Body → ℕ → Known → Option Known
+goes_at b place s = goes_by b place (slice_get b.plans place) s

@@ -15,7 +15,7 @@ use Rattle.flow_rules.specs.Ranks.{rank}
 use Rattle.flow_rules.specs.Stating.{state_from}
 use Rattle.flow_rules.specs.Flow.{stated, FitsBody, IsBelowState, state_edges, state_rank, meaning_of}
 use Rattle.flow_rules.specs.Views.{state_viewed}
-use Rattle.flow_rules.specs.Members.{mapped_from, mapped_held}
+use Rattle.label_fixpoint.specs.Mapped.{mapped_from, mapped_held}
 use Rattle.flow_rules.specs.EdgeLaws.{FitBody, fit_body, FitEdge, known_edges_fit}
 use Rattle.flow_rules.specs.Rising.{HasEdgeAbove, known_edges_rise}
 use Rattle.flow_rules.specs.RankLaws.{rank_within, rank_keeps, no_rise_back}

@@ -1,10 +1,12 @@
 pub mod Body
+pub mod Starts
 pub mod KnownEdges
 pub mod Ranks
 pub mod Stating
 pub mod Flow
 pub mod Making
 pub mod FlowBody
+pub mod Blocks
 pub mod Gaining
 pub mod Gathering
 pub mod Views
@@ -13,6 +15,8 @@ pub mod Members
 pub mod Rising
 pub mod RankLaws
 pub mod Lawful
+pub mod BlockViews
+pub mod BlockLaws
 pub mod Appended
 pub mod Reporting
 pub mod Reports
@@ -22,4 +26,6 @@ pub mod Machine
 pub mod Outcomes
 pub mod Runs
 pub mod Conforming
+pub mod Assembly
 pub mod Examples
+pub mod Shown

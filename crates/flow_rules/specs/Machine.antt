@@ -35,33 +35,33 @@ is_inside place f = nat_le f.first place && nat_lt place (f.first + length f.ins
 abbrev pub function_at : ModuleValue → ℕ → Option Piece
 function_at m place = find (is_inside place) m.code.functions
 
-abbrev pub goes_on_in : ℕ → Option Piece → Bool
-goes_on_in place None = false
-goes_on_in place (Some f) = is_inside (place + 1) f
+abbrev pub has_next_in : ℕ → Option Piece → Bool
+has_next_in place None = false
+has_next_in place (Some f) = is_inside (place + 1) f
 
 -- the next place is in the same function
 abbrev pub has_next_at : ModuleValue → ℕ → Bool
-has_next_at m place = goes_on_in place (function_at m place)
+has_next_at m place = has_next_in place (function_at m place)
 
 abbrev pub label_place : ModuleValue → ℕ → ℕ
 label_place m label = place_in (marks_of m.code.instrs) label
 
 -- ---- plans
 
--- an instruction with which nothing is wrong has a plan
-abbrev pub plan_unless : Option Reason → Result Plan PlanRefusal → Result Plan Reason
-plan_unless (Some why) plan = Err why
-plan_unless None (Ok p) = Ok p
-plan_unless None (Err refusal) = Err Unsupported
+-- a plan only where nothing is wrong with the opcode or operands
+abbrev pub plan_or_fault : Option Reason → Result Plan PlanRefusal → Result Plan Reason
+plan_or_fault (Some why) plan = Err why
+plan_or_fault None (Ok p) = Ok p
+plan_or_fault None (Err refusal) = Err Unsupported
 
-abbrev pub plan_in : ModuleValue → Option Piece → Option Instruction → Result Plan Reason
-plan_in m None i = Err Leave
-plan_in m (Some f) None = Err Leave
-plan_in m (Some f) (Some i) = plan_unless (instruction_fault m f i) (plan_of i (ends m i))
+abbrev pub found_plan : ModuleValue → Option Piece → Option Instruction → Result Plan Reason
+found_plan m None i = Err Leave
+found_plan m (Some f) None = Err Leave
+found_plan m (Some f) (Some i) = plan_or_fault (instruction_fault m f i) (plan_of i (ends m i))
 
 -- of the instruction at a place of the code, or what is wrong with its opcode or operands
 abbrev pub plan_at : ModuleValue → ℕ → Result Plan Reason
-plan_at m place = plan_in m (function_at m place) (slice_get m.code.instrs place)
+plan_at m place = found_plan m (function_at m place) (slice_get m.code.instrs place)
 
 -- ---- being stuck
 

@@ -15,7 +15,7 @@ use Rattle.flow_rules.specs.Values.{Contents, Frame, Local, values}
 use Rattle.flow_rules.specs.Values.Value.{Mark}
 use Rattle.flow_rules.specs.Machine.{Activation, Machine, label_place, plan_at}
 
--- all is done, or all and then a jump to this label of the exit; or, of what comes first alone, a jump to this label where the instruction fails, or a raise
+-- all is done; or all is, and then it jumps to one of the exit's labels; or only what comes first is done, and it fails to one of the plan's labels for that, or raises; a number is the index of the label in its list, from 0
 pub data Way : Type 0 where
   Done : Way
   Jump : ℕ → Way
@@ -33,8 +33,8 @@ pub data Outcome : Type 0 where
   Ends : Outcome
   Never : Outcome
 
-abbrev pub goes_to : ℕ → Local → List Activation → Outcome
-goes_to place local waiting = Goes (record { place = place; local = local; waiting = waiting })
+abbrev pub next_at : ℕ → Local → List Activation → Outcome
+next_at place local waiting = Goes (record { place = place; local = local; waiting = waiting })
 
 -- registers and a frame, with nothing reserved
 abbrev pub bare : (ℕ → Contents) → Frame → Local
@@ -51,12 +51,12 @@ abbrev pub terms_left : Plan → List ℕ → List ℕ
 terms_left p terms = drop (terms_in p.before) terms
 
 -- what comes before it can fail is done
-abbrev pub begun : Plan → List ℕ → Local → Local
-begun p terms local = effects values p.before terms local
+abbrev pub before_done : Plan → List ℕ → Local → Local
+before_done p terms local = effects values p.before terms local
 
 -- all is done
-abbrev pub finished : Plan → List ℕ → Local → Local
-finished p terms local = effects values p.after (terms_left p terms) (begun p terms local)
+abbrev pub all_done : Plan → List ℕ → Local → Local
+all_done p terms local = effects values p.after (terms_left p terms) (before_done p terms local)
 
 -- ---- raises
 
@@ -73,7 +73,7 @@ alone a i = if i == 0 then a else None
 -- the handler of an activation is entered with the mark, and else it is as outside
 abbrev pub caught_in : ModuleValue → Frame → List Activation → List ℕ → Outcome → Outcome
 caught_in m frame waiting [] outside = outside
-caught_in m frame waiting (label ∷ labels) outside = goes_to (label_place m label) (bare (alone (Some Mark)) frame) waiting
+caught_in m frame waiting (label ∷ labels) outside = next_at (label_place m label) (bare (alone (Some Mark)) frame) waiting
 
 -- to the handler of the nearest activation that has one; the run ends where none has
 abbrev pub raised : ModuleValue → Frame → List Activation → Outcome
@@ -88,7 +88,7 @@ after_call p frame a = write_reg (regs.X 0) a (effects values p.after [] (bare (
 
 abbrev pub resumed : Activation → List Activation → Contents → Result Plan Reason → Outcome
 resumed call waiting a (Err why) = Never
-resumed call waiting a (Ok p) = goes_to (call.place + 1) (after_call p call.frame a) waiting
+resumed call waiting a (Ok p) = next_at (call.place + 1) (after_call p call.frame a) waiting
 
 -- the last call goes on; the run ends where none waits
 abbrev pub returned : ModuleValue → List Activation → Contents → Outcome
@@ -97,36 +97,40 @@ returned m (call ∷ waiting) a = resumed call waiting a (plan_at m call.place)
 
 -- ---- exits
 
+-- a call that waits at its place, with the frame that is there
+abbrev pub suspended : ℕ → Local → Activation
+suspended place local = record { place = place; frame = local.frame }
+
 -- a function is entered with the registers as they are, without a frame; what is called outside returns any term
-abbrev pub left : ModuleValue → Machine → Plan → List ℕ → Exit → Outcome
-left m s p terms exits.Next = goes_to (s.place + 1) (finished p terms s.local) s.waiting
-left m s p terms (exits.Labels labels) = Never
-left m s p terms (exits.Enter label) = let local = begun p terms s.local in goes_to (label_place m label) (bare local.x Absent) (record { place = s.place; frame = local.frame } ∷ s.waiting)
-left m s p terms (exits.TailLocal label) = goes_to (label_place m label) (bare (begun p terms s.local).x Absent) s.waiting
-left m s p terms exits.TailExt = returned m s.waiting (chosen values (terms_left p terms) 0)
-left m s p terms exits.Return = returned m s.waiting ((begun p terms s.local).x 0)
-left m s p terms exits.End = Never
+abbrev pub at_exit : ModuleValue → Machine → Plan → List ℕ → Exit → Outcome
+at_exit m s p terms exits.Next = next_at (s.place + 1) (all_done p terms s.local) s.waiting
+at_exit m s p terms (exits.Labels labels) = Never
+at_exit m s p terms (exits.Enter label) = let local = before_done p terms s.local in next_at (label_place m label) (bare local.x Absent) (suspended s.place local ∷ s.waiting)
+at_exit m s p terms (exits.TailLocal label) = next_at (label_place m label) (bare (before_done p terms s.local).x Absent) s.waiting
+at_exit m s p terms exits.TailExt = returned m s.waiting (chosen values (terms_left p terms) 0)
+at_exit m s p terms exits.Return = returned m s.waiting ((before_done p terms s.local).x 0)
+at_exit m s p terms exits.End = Never
 
 abbrev pub jumps_to : ModuleValue → Option ℕ → Local → List Activation → Outcome
 jumps_to m None local waiting = Never
-jumps_to m (Some label) local waiting = goes_to (label_place m label) local waiting
+jumps_to m (Some label) local waiting = next_at (label_place m label) local waiting
 
--- what is called outside in place of the function may raise
-abbrev pub raises_at_exit : Exit → Bool
-raises_at_exit exits.TailExt = true
-raises_at_exit exits.End = true
-raises_at_exit _ = false
+-- the instruction itself raises, or what it calls outside in place of the function may; what a call of a function raises is raised by an instruction of that one
+abbrev pub raises_itself : Exit → Bool
+raises_itself exits.TailExt = true
+raises_itself exits.End = true
+raises_itself _ = false
 
 abbrev pub can_raise : Plan → Bool
-can_raise p = p.raises || raises_at_exit p.exit
+can_raise p = p.raises || raises_itself p.exit
 
 -- ---- outcomes
 
 abbrev pub outcome_of : ModuleValue → Machine → Plan → List ℕ → Way → Outcome
-outcome_of m s p terms Way.Done = left m s p terms p.exit
-outcome_of m s p terms (Way.Jump k) = jumps_to m (slice_get (exit_labels p.exit) k) (finished p terms s.local) s.waiting
-outcome_of m s p terms (Way.Fail k) = jumps_to m (slice_get p.fails k) (begun p terms s.local) s.waiting
-outcome_of m s p terms Way.Raise = if can_raise p then raised m (begun p terms s.local).frame s.waiting else Never
+outcome_of m s p terms Way.Done = at_exit m s p terms p.exit
+outcome_of m s p terms (Way.Jump k) = jumps_to m (slice_get (exit_labels p.exit) k) (all_done p terms s.local) s.waiting
+outcome_of m s p terms (Way.Fail k) = jumps_to m (slice_get p.fails k) (before_done p terms s.local) s.waiting
+outcome_of m s p terms Way.Raise = if can_raise p then raised m (before_done p terms s.local).frame s.waiting else Never
 
 abbrev pub outcome_by : ModuleValue → Machine → Choice → Result Plan Reason → Outcome
 outcome_by m s c (Err why) = Never

@@ -17,12 +17,13 @@ use Rattle.reg_state.specs.Kinds.{KindBelow}
 use Rattle.reg_state.specs.States.{Known, IsBelow}
 use Rattle.reg_state.specs.Ordered.{reflexive}
 use Rattle.label_fixpoint.specs.declared.edge.Edge.{Edge}
+use Rattle.label_fixpoint.specs.Cut.{onward}
 use Rattle.action_rules.specs.Fitting.{Bounds, slot_fits, frame_fits, is_handler, Fits}
 use Rattle.action_rules.specs.Relating.{known_effects_rise}
 use Rattle.flow_rules.specs.Body.{Body}
 use Rattle.action_rules.specs.Needs.{goes_on}
-use Rattle.flow_rules.specs.KnownEdges.{edge_to, edges_to, caught, entered, done, lowest, handlers_in, raise_edges, may_raise, raises_of, jumps, has_next, goes, onward, edges_by, known_edges}
-use Rattle.flow_rules.specs.Members.{mapped_held}
+use Rattle.flow_rules.specs.KnownEdges.{edge_to, edges_to, caught, entered, done, lowest, handlers_in, raise_edges, may_raise, raises_of, jumps, has_next, goes, edges_by, known_edges}
+use Rattle.label_fixpoint.specs.Mapped.{mapped_held}
 use Rattle.flow_rules.specs.EdgeLaws.{FitBody, FitPlan, fit_plan_at, handler_held, slots_parted, entered_fits}
 
 -- one of the edges has the same target and a state above

@@ -39,7 +39,7 @@ abbrev pub is_value : Contents → Bool
 is_value None = false
 is_value (Some value) = true
 
--- a copy is what was copied; a trim of another size is not done, as its need fails
+-- a copy is what was copied; a trim whose sizes do not fit leaves no frame, and its need fails
 abbrev pub values : Domain Contents ⊥
 values = record {
   unset = None;

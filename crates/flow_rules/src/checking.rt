@@ -1,6 +1,6 @@
 //! What a place needs of what is known there.
 
-ghost use Rattle.std.specs.Prelude.{◌≡◌, ◌<◌, true, length};
+ghost use Rattle.std.specs.Prelude.{◌≡◌, ◌<◌, ◌+◌, ◌++◌, true, length, OnOk, OnErr};
 ghost use Rattle.reg_state.specs.States.{frame_of, store_of};
 ghost use Rattle.action_rules.specs.Fitting.{Fits};
 ghost use Rattle.action_rules.specs.KindDomain.{kinds};
@@ -8,11 +8,14 @@ ghost use Rattle.action_rules.specs.Known.{HasFewSlots};
 ghost use Rattle.action_rules.specs.Needs.{exit_need, plan_need};
 ghost use Rattle.action_rules.specs.Steady.{needs_now};
 ghost use Rattle.flow_rules.specs.Body.{plan_is_steady};
-ghost use Rattle.flow_rules.specs.FlowBody.{body_of, checked};
+ghost use Rattle.code_faults.specs.Faults.{faults_at};
+ghost use Rattle.flow_rules.specs.Flow.{FitsBody};
+ghost use Rattle.flow_rules.specs.FlowBody.{body_of, checked, need_at};
 
 use crate::fn_flow::FnFlow;
 use action_rules::{Reason, need};
-use code_faults::Fault;
+use bk_base::NoMemory;
+use code_faults::{Fault, FaultList};
 use op_table::{Action, Exit, Plan};
 use reg_state::State;
 
@@ -63,5 +66,22 @@ impl<'m> FnFlow<'m> {
             place: (self.function.first() + place) as u32,
             reason,
         })
+    }
+    /// Puts the first need of the instruction at a place that what is known there doesn't meet at the end
+    /// of `out`. It is refused for want of memory alone, and then has put nothing there.
+    pub(crate) fn add_fault(
+        &self,
+        place: usize,
+        s: &State,
+        out: &mut FaultList,
+    ) -> Result<(), NoMemory>
+        requires { place < length self.now.plans }
+        ensures ok { FitsBody (body_of self.now) s.now → OnOk result (out.new ≡ out.old ++ faults_at self.now.number (self.now.function.first + place) (need_at (body_of self.now) place (store_of s.now))) }
+        ensures err { OnErr result (out.new ≡ out.old) }
+    {
+        if let Some(fault) = self.check(place, s) {
+            out.push(fault)?;
+        }
+        Ok(())
     }
 }

@@ -1,13 +1,14 @@
 //! The edges that lead on from a place.
 
-ghost use Rattle.std.specs.Prelude.{◌≡◌, ◌<◌, [], ◌∷◌, length, slice_get, Some, IfOk, OnOk, OnErr};
+ghost use Rattle.std.specs.Prelude.{◌≡◌, ◌<◌, [], ◌∷◌, if◌then◌else◌, length, slice_get, Some, None, IfOk, OnOk, OnErr};
 ghost use Rattle.std.specs.Option.{option_to_list};
 ghost use Rattle.op_table.specs.Rules.{exit_labels};
 ghost use Rattle.reg_state.specs.States.{slots_of, frame_of, store_of};
 ghost use Rattle.action_rules.specs.Known.{known_effects};
 ghost use Rattle.action_rules.specs.Needs.{goes_on};
-ghost use Rattle.flow_rules.specs.KnownEdges.{edges_to, entered, caught, exit_raises, may_raise, lowest, raise_edges, failures, has_next, known_edges};
+ghost use Rattle.flow_rules.specs.KnownEdges.{edges_to, entered, caught, exit_raises, may_raise, lowest, raise_edges, failures, goes_at, has_next, jumps_at, known_edges};
 ghost use Rattle.flow_rules.specs.FlowBody.{body_of};
+ghost use Rattle.flow_rules.specs.Blocks.{numbered};
 ghost use Rattle.flow_rules.specs.Gaining.{Gains, GainsPart};
 
 use crate::fn_flow::FnFlow;
@@ -94,20 +95,29 @@ impl<'m> FnFlow<'m> {
         self.function.place_of(label).unwrap_or(behind)
     }
 
+    // The number of the place of a label, or the place itself where it has no number.
+    fn number_of(&self, label: u32, numbers: &[usize]) -> usize
+        ensures { result ≡ (numbered numbers.now (body_of self.now)).place label }
+    {
+        let place = self.target(label);
+        numbers.get(place).copied().unwrap_or(place)
+    }
+
     // Edges to labels, each with a copy of the state.
     fn add_edges(
         &self,
         alloc: Global,
         labels: &[u32],
+        numbers: &[usize],
         s: &State,
         edges: &mut EdgeList<State>,
     ) -> Result<(), NoMemory>
-        ensures ok { OnOk result (Gains edges.old (edges_to (body_of self.now).place labels.now (store_of s.now)) edges.new) }
-        ensures err { OnErr result (GainsPart edges.old (edges_to (body_of self.now).place labels.now (store_of s.now)) edges.new) }
+        ensures ok { OnOk result (Gains edges.old (edges_to (numbered numbers.now (body_of self.now)).place labels.now (store_of s.now)) edges.new) }
+        ensures err { OnErr result (GainsPart edges.old (edges_to (numbered numbers.now (body_of self.now)).place labels.now (store_of s.now)) edges.new) }
     {
         for label in labels {
             let state = copy_state(alloc, s)?;
-            let target = self.target(*label);
+            let target = self.number_of(*label, numbers);
             edges.push(Edge { target, state })?;
         }
         Ok(())
@@ -118,14 +128,15 @@ impl<'m> FnFlow<'m> {
         &self,
         alloc: Global,
         label: u32,
+        numbers: &[usize],
         frame: &FrameState,
         edges: &mut EdgeList<State>,
     ) -> Result<(), NoMemory>
-        ensures ok { OnOk result (Gains edges.old (edges_to (body_of self.now).place (label ∷ []) (caught (frame_of frame.now))) edges.new) }
-        ensures err { OnErr result (GainsPart edges.old (edges_to (body_of self.now).place (label ∷ []) (caught (frame_of frame.now))) edges.new) }
+        ensures ok { OnOk result (Gains edges.old (edges_to (numbered numbers.now (body_of self.now)).place (label ∷ []) (caught (frame_of frame.now))) edges.new) }
+        ensures err { OnErr result (GainsPart edges.old (edges_to (numbered numbers.now (body_of self.now)).place (label ∷ []) (caught (frame_of frame.now))) edges.new) }
     {
         let state = caught(alloc, frame)?;
-        let target = self.target(label);
+        let target = self.number_of(label, numbers);
         edges.push(Edge { target, state })
     }
 
@@ -133,21 +144,22 @@ impl<'m> FnFlow<'m> {
     fn add_raises(
         &self,
         alloc: Global,
+        numbers: &[usize],
         frame: &FrameState,
         edges: &mut EdgeList<State>,
     ) -> Result<(), NoMemory>
-        ensures ok { OnOk result (Gains edges.old (raise_edges (body_of self.now) (frame_of frame.now)) edges.new) }
-        ensures err { OnErr result (GainsPart edges.old (raise_edges (body_of self.now) (frame_of frame.now)) edges.new) }
+        ensures ok { OnOk result (Gains edges.old (raise_edges (numbered numbers.now (body_of self.now)) (frame_of frame.now)) edges.new) }
+        ensures err { OnErr result (GainsPart edges.old (raise_edges (numbered numbers.now (body_of self.now)) (frame_of frame.now)) edges.new) }
     {
         match frame {
             FrameState::Absent => Ok(()),
             FrameState::Slots(slots) => match lowest(slots.as_slice()) {
-                Some(label) => self.add_raise(alloc, label, frame, edges),
+                Some(label) => self.add_raise(alloc, label, numbers, frame, edges),
                 None => Ok(()),
             },
             FrameState::Clash => {
                 let state = caught(alloc, frame)?;
-                self.add_edges(alloc, self.handlers.as_slice(), &state, edges)
+                self.add_edges(alloc, self.handlers.as_slice(), numbers, &state, edges)
             }
         }
     }
@@ -157,15 +169,16 @@ impl<'m> FnFlow<'m> {
         &self,
         alloc: Global,
         plan: &Plan,
+        numbers: &[usize],
         s: &State,
         edges: &mut EdgeList<State>,
     ) -> Result<(), NoMemory>
-        ensures ok { OnOk result (Gains edges.old (failures (body_of self.now) plan.now (store_of s.now)) edges.new) }
-        ensures err { OnErr result (GainsPart edges.old (failures (body_of self.now) plan.now (store_of s.now)) edges.new) }
+        ensures ok { OnOk result (Gains edges.old (failures (numbered numbers.now (body_of self.now)) plan.now (store_of s.now)) edges.new) }
+        ensures err { OnErr result (GainsPart edges.old (failures (numbered numbers.now (body_of self.now)) plan.now (store_of s.now)) edges.new) }
     {
-        self.add_edges(alloc, plan.fails.as_slice(), s, edges)?;
+        self.add_edges(alloc, plan.fails.as_slice(), numbers, s, edges)?;
         if may_raise(plan) {
-            self.add_raises(alloc, &s.frame, edges)?;
+            self.add_raises(alloc, numbers, &s.frame, edges)?;
         }
         Ok(())
     }
@@ -176,19 +189,62 @@ impl<'m> FnFlow<'m> {
         &self,
         alloc: Global,
         plan: &Plan,
+        numbers: &[usize],
         s: &mut State,
         edges: &mut EdgeList<State>,
     ) -> Result<bool, NoMemory>
         ensures done { IfOk result (λ on. store_of s.new ≡ known_effects plan.now.after (store_of s.old)) }
         ensures on { IfOk result (λ on. on ≡ goes_on plan.now.exit) }
-        ensures ok { IfOk result (λ on. Gains edges.old (edges_to (body_of self.now).place (exit_labels plan.now.exit) (known_effects plan.now.after (store_of s.old))) edges.new) }
-        ensures err { OnErr result (GainsPart edges.old (edges_to (body_of self.now).place (exit_labels plan.now.exit) (known_effects plan.now.after (store_of s.old))) edges.new) }
+        ensures ok { IfOk result (λ on. Gains edges.old (edges_to (numbered numbers.now (body_of self.now)).place (exit_labels plan.now.exit) (known_effects plan.now.after (store_of s.old))) edges.new) }
+        ensures err { OnErr result (GainsPart edges.old (edges_to (numbered numbers.now (body_of self.now)).place (exit_labels plan.now.exit) (known_effects plan.now.after (store_of s.old))) edges.new) }
     {
         apply_all(alloc, plan.after.as_slice(), s)?;
         if let Exit::Labels(labels) = &plan.exit {
-            self.add_edges(alloc, labels.as_slice(), s, edges)?;
+            self.add_edges(alloc, labels.as_slice(), numbers, s, edges)?;
         }
         Ok(goes_on(&plan.exit))
+    }
+
+    /// Follows the instruction at a place: puts its edges to labels at the end of `edges`, with the
+    /// numbers of their places as targets, makes `s` what the next place is entered with, and says
+    /// whether it goes on there.
+    ///
+    /// It is refused for want of memory alone, and then has put the first of these edges there.
+    pub(crate) fn step(
+        &self,
+        alloc: Global,
+        place: usize,
+        numbers: &[usize],
+        s: &mut State,
+        edges: &mut EdgeList<State>,
+    ) -> Result<bool, NoMemory>
+        requires { place < length self.now.plans }
+        ensures ok { IfOk result (λ on. Gains edges.old (jumps_at (numbered numbers.now (body_of self.now)) place (store_of s.old)) edges.new) }
+        ensures on { IfOk result (λ on. goes_at (body_of self.now) place (store_of s.old) ≡ (if on then Some (store_of s.new) else None)) }
+        ensures err { OnErr result (GainsPart edges.old (jumps_at (numbered numbers.now (body_of self.now)) place (store_of s.old)) edges.new) }
+    {
+        let plan = self.plan(place);
+        enter(alloc, plan, s)?;
+        self.leave(alloc, plan, numbers, s, edges)?;
+        let goes_on = self.go(alloc, plan, numbers, s, edges)?;
+        Ok(goes_on && self.has_next(place))
+    }
+
+    /// Makes `s` what the place behind a place is entered with, and says whether it goes on there. It is
+    /// refused for want of memory alone.
+    pub(crate) fn advance(
+        &self,
+        alloc: Global,
+        place: usize,
+        s: &mut State,
+    ) -> Result<bool, NoMemory>
+        requires { place < length self.now.plans }
+        ensures { IfOk result (λ on. goes_at (body_of self.now) place (store_of s.old) ≡ (if on then Some (store_of s.new) else None)) }
+    {
+        let plan = self.plan(place);
+        enter(alloc, plan, s)?;
+        apply_all(alloc, plan.after.as_slice(), s)?;
+        Ok(goes_on(&plan.exit) && self.has_next(place))
     }
 
     /// Puts the edges that lead on from a place at the end of `edges`.
@@ -205,12 +261,8 @@ impl<'m> FnFlow<'m> {
         ensures ok { OnOk result (Gains edges.old (known_edges (body_of self.now) place (store_of s.now)) edges.new) }
         ensures err { OnErr result (GainsPart edges.old (known_edges (body_of self.now) place (store_of s.now)) edges.new) }
     {
-        let plan = self.plan(place);
         let mut state = copy_state(alloc, s)?;
-        enter(alloc, plan, &mut state)?;
-        self.leave(alloc, plan, &state, edges)?;
-        let goes_on = self.go(alloc, plan, &mut state, edges)?;
-        if goes_on && self.has_next(place) {
+        if self.step(alloc, place, &[], &mut state, edges)? {
             let target = place + 1;
             edges.push(Edge { target, state })?;
         }

@@ -4,6 +4,8 @@ ghost use Rattle.std.specs.Prelude.{◌≡◌, ◌<◌, ◌+◌, true, length};
 ghost use Rattle.std.specs.List.{list_all};
 ghost use Rattle.flow_rules.specs.Body.{body_from, body_fits, plan_is_steady};
 ghost use Rattle.flow_rules.specs.Making.{y_bound};
+ghost use Rattle.flow_rules.specs.Starts.{HasEntry};
+ghost use Rattle.func_split.specs.Marks.{marks_of};
 ghost use Rattle.code_faults.specs.Registers.{x_bound};
 
 use bk_base::ItemList;
@@ -26,5 +28,6 @@ pub struct FnFlow<'m> {
     ghost steady: { list_all plan_is_steady plans ≡ true },
     ghost low: { y_bound plans < 4_294_967_296 },
     ghost sized: { length plans ≡ length function.instrs },
+    ghost entered: { HasEntry (marks_of function.instrs) function.entry },
     ghost short: { function.first + length function.instrs < 4_294_967_296 },
 }

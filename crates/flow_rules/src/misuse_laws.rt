@@ -4,7 +4,8 @@ ghost use Rattle.std.specs.Prelude.{List, [], ◌∷◌};
 ghost use Rattle.compact_term.specs.declared.operand.Plain.TheVariants.{A, X, Y};
 ghost use Rattle.compact_term.specs.declared.operand.Reg.TheVariants as regs;
 ghost use Rattle.action_rules.specs.declared.reason.Reason.TheVariants as reasons;
-ghost use Rattle.flow_rules.specs.Examples.{Meets, module_with, allocate, deallocate, return, move, put_list, try, try_end, label};
+ghost use Rattle.flow_rules.specs.Assembly.{allocate, deallocate, return, move, put_list, try, try_end, label};
+ghost use Rattle.flow_rules.specs.Examples.{Meets, module_with};
 
 use func_split::splitting_is_exact;
 

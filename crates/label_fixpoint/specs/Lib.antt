@@ -2,6 +2,14 @@ pub mod Meaning
 pub mod Singles
 pub mod Edges
 pub mod Typing
+pub mod Cut
+pub mod Mapped
+pub mod Passing
+pub mod Leaving
+pub mod BlockFlows
+pub mod Spreading
+pub mod Heads
+pub mod HeadLaws
 pub mod Progress
 pub mod Jumps
 pub mod JumpLaws

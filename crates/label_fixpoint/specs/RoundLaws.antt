@@ -8,6 +8,7 @@ use Rattle.label_fixpoint.specs.Meaning.{Meaning, IsLawful}
 use Rattle.label_fixpoint.specs.Singles.{nothing_in, only_in}
 use Rattle.label_fixpoint.specs.Typing.{Typing, HasAbove, IsConsistent, IsBelowTyping, IsLeast}
 use Rattle.label_fixpoint.specs.Progress.{weight}
+use Rattle.label_fixpoint.specs.Passing.{passed}
 use Rattle.label_fixpoint.specs.Rounds.{joined_at, take_in, take_all, edges_of_state, edges_before, one_round, first_typing, rounds, least_typing}
 
 -- join gives least upper bounds of states that fit, and a state above another of no lower rank is below it
@@ -199,17 +200,7 @@ module _ (S : Type 0) (m : Meaning S) (join : S → S → S) (law : IsLawful m) 
   -- what leads on from a state of t is below what u has, where u is consistent and above t
   followed : (t u : Typing S) → Fitting t → IsConsistent m u → IsBelowTyping m t u → (p : ℕ) (s : S) (e : Edge S) → p < m.place_count → t p ≡ Some s → Contains (m.edges_of p s) e
       → HasAbove m u e.target e.state
-  followed t u fits consistent below p s e inside is held =
-      let fit = fits p s inside is in
-      let top = below p s inside is in
-      let fit_top = consistent.fits p top.0 inside top.1 in
-      let grown = law.monotone p s top.0 e inside fit fit_top top.2 held in
-      let met = consistent.follows p top.0 grown.0 inside top.1 grown.1 in
-      let within = law.targets p top.0 grown.0 inside fit_top grown.1 in
-      let fit_met = consistent.fits grown.0.target met.0 within met.1 in
-      let fit_grown = law.edges_fit p top.0 grown.0 inside fit_top grown.1 in
-      let over = law.transitive e.state grown.0.state met.0 (law.edges_fit p s e inside fit held) fit_grown fit_met grown.3 met.2 in
-      subst (λ (q : ℕ). HasAbove m u q e.state) grown.2 (met.0, met.1, over)
+  followed t u fits consistent below p s e inside is held = passed S m law u consistent p s e inside (fits p s inside is) (below p s inside is) held
 
   round_least : (t u : Typing S) → Fitting t → IsConsistent m u → IsBelowTyping m t u → IsBelowTyping m (one_round m join t) u
   round_least t u fits consistent below =

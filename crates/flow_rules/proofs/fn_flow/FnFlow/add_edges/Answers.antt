@@ -1,6 +1,7 @@
 use Rattle.std.proofs.Common.{take, drop}
 use Rattle.reg_state.specs.States.{store_of}
 use Rattle.flow_rules.specs.FlowBody.{body_of}
+use Rattle.flow_rules.specs.Blocks.{numbered}
 use Rattle.flow_rules.specs.Gathering.{GainsPart-of}
 use Rattle.flow_rules.specs.KnownEdges.{edges_to}
 use Rattle.flow_rules.proofs.Added.{cut_at, on_err}
@@ -8,7 +9,7 @@ use Rattle.flow_rules.proofs.fn_flow.FnFlow.add_edges.Goals as goal
 
 pub returns-in_err-state-clause-err : goal.returns-in_err-state-clause-err
 returns-in_err-state-clause-err c =
-    let place = (body_of c.args.self.now).place in
+    let place = (numbered c.args.numbers.now (body_of c.args.self.now)).place in
     let labels = c.args.labels.now in
     let s = store_of c.args.s.now in
     let i = c.loop-label.label-index in
@@ -17,7 +18,7 @@ returns-in_err-state-clause-err c =
 
 pub returns-in_err-push-clause-err : goal.returns-in_err-push-clause-err
 returns-in_err-push-clause-err c =
-    let place = (body_of c.args.self.now).place in
+    let place = (numbered c.args.numbers.now (body_of c.args.self.now)).place in
     let labels = c.args.labels.now in
     let s = store_of c.args.s.now in
     let i = c.loop-label.label-index in

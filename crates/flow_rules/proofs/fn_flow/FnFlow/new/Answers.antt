@@ -6,6 +6,7 @@ use Rattle.func_split.specs.Functions.{StandsIn}
 use Rattle.flow_rules.specs.AllPlans.{plans_steady}
 use Rattle.flow_rules.specs.Body.{body_fits, body_from}
 use Rattle.flow_rules.specs.Making.{HasPlan, handlers_of, y_bound}
+use Rattle.flow_rules.proofs.Headed.{function_entered}
 use Rattle.flow_rules.proofs.Judged.{faults_are, flow_is}
 use Rattle.flow_rules.proofs.fn_flow.FnFlow.new.Goals as goal
 
@@ -25,6 +26,7 @@ invariant_of-result c =
       steady = plans_steady m f f.instrs plans c.plans_are_steady.ensures have;
       low = subst (λ (n : ℕ). n < 4_294_967_296) (c.widest_frame-widest.ensures ∙ ap y_bound c.as_slice-2.ensures) c.widest_frame-widest.type_inv;
       sized = AllZip-long (HasPlan m f) f.instrs plans have;
+      entered = function_entered f stands.is;
       short = places.1;
     }
 
