@@ -1,7 +1,7 @@
 -- How a report is put together, function by function, and where its faults are.
-use Rattle.std.proofs.Common.{◌≡◌, ◌∙◌, ℕ, zero, suc, ◌+◌, ◌-◌, ◌<◌, ◌≤◌, Option, Some, None, option_map, Result, Ok, Err, OnOk, List, [], ◌∷◌, ◌++◌, length, take, slice_get, get_or, refl, sym, ap, subst, append_assoc, inl, inr, arith}
+use Rattle.std.proofs.Common.{◌≡◌, ◌≢◌, ◌∙◌, ℕ, zero, suc, ◌+◌, ◌-◌, ◌*◌, ◌<◌, ◌≤◌, Option, Some, None, Result, Ok, Err, OnOk, List, [], ◌∷◌, ◌++◌, length, take, slice_get, get_or, refl, sym, ap, subst, append_assoc, inl, inr, arith}
 use Rattle.std.specs.List.{All}
-use Rattle.std.specs.Option.{option_to_list}
+use Rattle.std.proofs.lemmas.Bool.{cases_lt}
 use Rattle.std.proofs.lemmas.List.{append-nil, length-take-le, take_more}
 use Rattle.std.proofs.lemmas.List.Elements.{All-nil, All-cons, All-append}
 use Rattle.std.proofs.lemmas.Option.{same_Some, slice_get-get_or, slice_get_cases}
@@ -10,21 +10,24 @@ use Rattle.op_table.specs.Instruction.{Instruction}
 use Rattle.op_table.specs.Table.{row_name, row_with}
 use Rattle.reg_state.specs.declared.state.State.{State}
 use Rattle.reg_state.specs.States.{store_of}
+use Rattle.label_fixpoint.specs.Cut.{at_state, read}
 use Rattle.label_fixpoint.specs.Typing.{Typing, IsLeast}
 use Rattle.func_split.specs.Functions.{Piece}
 use Rattle.beam_module.specs.Module.{ModuleValue}
 use Rattle.action_rules.specs.declared.reason.Reason.{Reason}
-use Rattle.action_rules.specs.Fitting.{Fits}
 use Rattle.code_faults.specs.declared.fault.Fault.{Fault}
 use Rattle.code_faults.specs.Faults.{fault_at, faults_at, faults_from, function_faults}
 use Rattle.code_faults.specs.Operands.{instruction_fault}
 use Rattle.flow_rules.specs.Body.{Body}
-use Rattle.flow_rules.specs.Flow.{FitsBody, meaning_of}
+use Rattle.flow_rules.specs.Flow.{meaning_of}
 use Rattle.flow_rules.specs.FlowBody.{need_at}
 use Rattle.flow_rules.specs.Making.{IsFlowOf, faults_of, faults_of_piece}
 use Rattle.flow_rules.specs.Reporting.{AreReported, IsFunctionReport, IsReport, IsTypedReport, faults_in, typed_faults}
-use Rattle.flow_rules.specs.Reports.{function_report, reports_from}
+use Rattle.flow_rules.specs.Ranks.{height}
+use Rattle.flow_rules.specs.Reports.{body_in, function_report, reports_from}
+use Rattle.flow_rules.specs.Starts.{block_count}
 use Rattle.validator.specs.Reported.{AddsReport, IsIn, IsReportOf}
+use Rattle.validator.specs.Counted.{if_sound, least_of, most_of, summed}
 use Rattle.validator.specs.Text.{fault_line, line_in, line_with, opcode_text}
 
 -- ---- one function more
@@ -127,27 +130,14 @@ reports_are_in m (f ∷ functions) number list there are =
 pub report_in : (m : ModuleValue) (list : List Fault) → IsReport m list → All (IsIn m) list
 report_in m list is = reports_are_in m m.code.functions 0 list (λ k f there. subst (λ (j : ℕ). slice_get m.code.functions j ≡ Some f) (omega arith) there) is
 
--- ---- places
+-- ---- blocks
 
-pub needs_next : (number first : ℕ) (b : Body) (t : Typing State) (place : ℕ) (old before after : List Fault) (found : Option Fault) → before ≡ old ++ typed_faults number first b t place → after ≡ before ++ option_to_list found
-    → option_to_list found ≡ faults_in number first b place (t place) → after ≡ old ++ typed_faults number first b t (place + 1)
-needs_next number first b t place old before after found so_far gained is =
-    let next : suc place ≡ place + 1 = omega arith in
-    gained ∙ (ap (λ (xs : List Fault). xs ++ option_to_list found) so_far
-    ∙ (append_assoc old (typed_faults number first b t place) (option_to_list found)
-    ∙ (ap (λ (xs : List Fault). old ++ (typed_faults number first b t place ++ xs)) is ∙ ap (λ (places : ℕ). old ++ typed_faults number first b t places) next)))
-
-pub checked_listed : (number place : ℕ) (o : Option Reason) → option_to_list (option_map (fault_at number place) o) ≡ faults_at number place o
-checked_listed number place None = refl
-checked_listed number place (Some why) = refl
-
--- the need of a place with a state
-pub need_told : (number first : ℕ) (b : Body) (t : Typing State) (place : ℕ) (s : State) (found : Option Fault) → IsLeast (meaning_of b) t → place < length b.plans → t place ≡ Some s
-    → (Fits b.bounds (store_of s) → found ≡ option_map (fault_at number (first + place)) (need_at b place (store_of s))) → option_to_list found ≡ faults_in number first b place (t place)
-unfolding FitsBody
-need_told number first b t place s found least inside is told =
-    let fit = least.consistent.fits place s inside is in
-    ap option_to_list (told fit) ∙ (checked_listed number (first + place) (need_at b place (store_of s)) ∙ ap (faults_in number first b place) (sym is))
+pub read_next : {A S : Type 0} (t : Typing S) (f : ℕ → S → List A) (n : ℕ) (old before after : List A) → before ≡ old ++ read t f n → after ≡ before ++ at_state (f n) (t n) → after ≡ old ++ read t f (n + 1)
+read_next {A} {S} t f n old before after so_far gained =
+    let next : suc n ≡ n + 1 = omega arith in
+    gained ∙ (ap (λ (xs : List A). xs ++ at_state (f n) (t n)) so_far
+    ∙ (append_assoc old (read t f n) (at_state (f n) (t n))
+    ∙ ap (λ (k : ℕ). old ++ read t f k) next))
 
 -- ---- a function without faults of opcodes and operands
 
@@ -179,3 +169,35 @@ line_found m x f instrs first instr inside there own begins is =
     let found : instr ≡ get_or f.instrs (x.place - f.first) instr = is ∙ (ap (λ (list : List Instruction). get_or list (x.place - first) instr) own ∙ ap (λ (n : ℕ). get_or f.instrs (x.place - n) instr) begins) in
     let at : slice_get f.instrs (x.place - f.first) ≡ Some instr = slice_get-get_or f.instrs (x.place - f.first) instr below ∙ ap Some (sym found) in
     sym (ap (line_in m x) there ∙ ap (λ (o : Option Instruction). line_with m.atoms f (opcode_text o) x) at)
+
+-- ---- steps
+
+pub summed_next : (f : ℕ → ℕ) (n : ℕ) → summed f (n + 1) ≡ summed f n + f n
+summed_next f n = let next : n + 1 ≡ suc n = omega arith in ap (summed f) next
+
+pub summed_most : (f : ℕ → ℕ) (k n : ℕ) → k ≤ n → summed f k ≤ summed f n
+summed_most f k zero low = let same : k ≡ 0 = omega (arith, low) in let sums : summed f k ≡ summed f 0 = ap (summed f) same in omega (arith, sums)
+summed_most f k (suc n) low =
+    elim (cases_lt n k) [
+      | inl over ↦ let same : k ≡ suc n = omega (arith, low, over) in let sums : summed f k ≡ summed f (suc n) = ap (summed f) same in omega (arith, sums)
+      | inr under ↦ let before = summed_most f k n under in omega (arith, before)
+    ]
+
+-- of a function that is judged block by block
+pub most_is : (m : ModuleValue) (number : ℕ) (f : Piece) (b : Body) → slice_get m.code.functions number ≡ Some f → function_faults m number f ≡ [] → b ≡ body_in m f → most_of m number (slice_get m.code.functions number) ≡ block_count f * height b.bounds
+most_is m number f b there sound is =
+    ap (most_of m number) there ∙ (ap (λ (faults : List Fault). if_sound faults (block_count f * height (body_in m f).bounds)) sound ∙ ap (λ (c : Body). block_count f * height c.bounds) (sym is))
+
+pub least_is : (m : ModuleValue) (number : ℕ) (f : Piece) → slice_get m.code.functions number ≡ Some f → function_faults m number f ≡ [] → least_of m number (slice_get m.code.functions number) ≡ 1
+least_is m number f there sound = ap (least_of m number) there ∙ ap (λ (faults : List Fault). if_sound faults 1) sound
+
+-- of a function with faults
+pub least_not : (m : ModuleValue) (number : ℕ) → faults_of m number ≢ [] → least_of m number (slice_get m.code.functions number) ≡ 0
+least_not m number wrong = go (slice_get m.code.functions number) wrong where
+  faulty : (faults : List Fault) → faults ≢ [] → if_sound faults 1 ≡ 0
+  faulty [] some = absurd (some refl)
+  faulty (fault ∷ faults) some = refl
+
+  go : (o : Option Piece) → faults_of_piece m number o ≢ [] → least_of m number o ≡ 0
+  go None some = refl
+  go (Some f) some = faulty (function_faults m number f) some

@@ -71,6 +71,26 @@ fn modules_are_judged(rt: HostRuntime) -> Result<(), Fail> {
     Ok(())
 }
 
+// f/1, as large as a function may be: 199,996 times move x0 x0, return.
+fn largest(alloc: Global) -> Result<Bytes, NoMemory> {
+    let mut file = Bytes::new(alloc);
+    file.extend(b"FOR1\0\x09\x27\xf0BEAMAtU8\0\0\0\x08\0\0\0\x02\x01m\x01f")?;
+    file.extend(b"Code\0\x09\x27\xd2\0\0\0\x10\0\0\0\0\0\0\0\xb6\0\0\0\x03\0\0\0\x01")?;
+    file.extend(b"\x01\x10\x02\x12\x22\x10\x01 ")?;
+    for _ in 0..199_996 {
+        file.extend(b"@\x03\x03")?;
+    }
+    file.extend(b"\x13\x03\0\0")?;
+    Ok(file)
+}
+
+#[test]
+fn the_largest_function_is_judged(rt: HostRuntime) -> Result<(), Fail> {
+    let file = largest(rt.alloc())?;
+    assert!(rt; is_judged(rt.alloc(), file.as_slice(), "accepted\n")?);
+    Ok(())
+}
+
 fn is_shown(alloc: Global, reason: Reason, text: &str) -> Result<bool, NoMemory> {
     let mut out = Bytes::new(alloc);
     put_reason(&mut out, reason)?;
