@@ -95,7 +95,7 @@ answers_done holds name bytes held done =
             done_by file (validate_output bytes) (subst Done is done)
       ]
       | inr none ↦
-          let is : answer holds (word ∷ name ∷ []) ≡ Some (stopped usage_line statuses.Usage) = rw none refl in
+          let is : answer holds (word ∷ name ∷ []) ≡ Some (stopped usage_line statuses.Usage) = rw (validate_by, none) refl in
           let wrong : statuses.Usage ≡ statuses.Done = subst Done is done in
           absurd cc
     ]

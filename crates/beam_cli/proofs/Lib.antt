@@ -5,3 +5,4 @@ pub mod Parts
 pub mod Printed
 pub mod RoundTrips
 pub mod Accepted
+pub mod Behind

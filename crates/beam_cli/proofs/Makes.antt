@@ -5,7 +5,7 @@ use Rattle.std.specs.List.{AllZip}
 use Rattle.bk_codec.specs.Reading.{◌>>=◌}
 use Rattle.bk_port.specs.declared.reading.TheConstants.{MOST_BYTES}
 use Rattle.beam_cli.specs.declared.command.Command.{Command}
-use Rattle.beam_cli.specs.declared.command.Command.TheVariants.{Info, Show, Disasm, Asm, Strip, Canon, Cmp, Validate}
+use Rattle.beam_cli.specs.declared.command.Command.TheVariants.{Info, Show, Disasm, Asm, Strip, Canon, Cmp, Validate, Gen}
 use Rattle.beam_cli.specs.declared.loading.LoadedFile.{LoadedFile}
 use Rattle.beam_cli.specs.declared.output.Output.{Output}
 use Rattle.beam_cli.specs.declared.refusal.Refusal.{Refusal}
@@ -84,6 +84,7 @@ refused_is_named holds names files Cmp r loaded long h =
     ]
 refused_is_named holds names files Validate r loaded long h =
     named_as names _ r.name (read_refused (file_at (map named_file files) 0) (validate_output (file_at (map named_file files) 0).bytes) r h) (named_at holds names files 0 loaded (omega (arith, long)))
+refused_is_named holds names files (Gen n) r loaded long h = absurd cc
 
 -- ---- the reason of a stop
 

@@ -45,7 +45,7 @@ answer_prints holds word name bytes text command by held is =
         | inl large ↦ record { given = stopped (too_large_line name) statuses.TooLarge; is = rw (by, named, held, large) refl; accepted = λ same. absurd cc; output = λ same. absurd cc }
         | inr small ↦ record { given = made (record { text = text; found = false }); is = rw (by, named, held, small, is) refl; accepted = λ same. absurd cc; output = λ done. refl }
       ]
-      | inr none ↦ record { given = stopped usage_line statuses.Usage; is = rw none refl; accepted = λ same. absurd cc; output = λ same. absurd cc }
+      | inr none ↦ record { given = stopped usage_line statuses.Usage; is = rw (by, none) refl; accepted = λ same. absurd cc; output = λ same. absurd cc }
     ]
 
 module _ (text : List ℕ) (a : Option Answer) (status : Status) (prints : Prints text a) (says : IsStatus status a) where

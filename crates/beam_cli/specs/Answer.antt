@@ -6,13 +6,14 @@ use Rattle.listing_out.specs.Comments.{commented_listing}
 use Rattle.beam_module.specs.Strip.{stripped_file}
 use Rattle.beam_module.specs.Canonical.{canonical_file}
 use Rattle.beam_cli.specs.declared.command.Command.{Command}
-use Rattle.beam_cli.specs.declared.command.Command.TheVariants.{Info, Show, Disasm, Asm, Strip, Canon, Cmp, Validate}
+use Rattle.beam_cli.specs.declared.command.Command.TheVariants.{Info, Show, Disasm, Asm, Strip, Canon, Cmp, Validate, Gen}
 use Rattle.beam_cli.specs.declared.refusal.Refusal.{Refusal}
 use Rattle.beam_cli.specs.declared.status.Status.{Status}
 use Rattle.beam_cli.specs.declared.status.Status.TheVariants.{Done, Refused, Usage, Grammar, TooLarge}
 use Rattle.beam_cli.specs.Words.{Asked, asked_by}
 use Rattle.beam_cli.specs.Files.{NamedFile, file_at, told, too_large}
 use Rattle.beam_cli.specs.Message.{line_about, usage_line, too_large_line, refusal_text}
+use Rattle.beam_cli.specs.Generating.{generated_output}
 use Rattle.beam_cli.specs.Needs.{chunks_of, listed_value, value_of_file}
 use Rattle.beam_cli.specs.Showing.{show_output}
 use Rattle.beam_cli.specs.Made.{Made, NamedRefusal, checks, prints}
@@ -70,6 +71,7 @@ output_of Strip files = prints strip_output (file_at files 0)
 output_of Canon files = prints canon_output (file_at files 0)
 output_of Cmp files = cmp_output (file_at files 0) (file_at files 1)
 output_of Validate files = checks validate_output (file_at files 0)
+output_of (Gen n) files = Ok (generated_output n)
 
 -- the first file that has too many bytes comes before every refusal
 abbrev pub unless_too_large : Option (List ℕ) → Answer → Answer

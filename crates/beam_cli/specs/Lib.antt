@@ -2,6 +2,7 @@ pub mod ExitStatus
 pub mod Words
 pub mod Asking
 pub mod Files
+pub mod Generating
 pub mod Message
 pub mod Reasons
 pub mod Needs

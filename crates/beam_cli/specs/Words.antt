@@ -1,8 +1,11 @@
 -- The command grammar: which words ask for something, and for what.
-use Rattle.std.specs.Prelude.{ℕ, Bool, false, not, ◌==◌, ◌&&◌, ◌||◌, List, [], ◌∷◌, length, codes, bytes_eq, Option, Some, None, option_map, if◌then◌else◌}
+use Rattle.std.specs.Prelude.{ℕ, ◌^◌, ◌≤◌, nat_le, ⊤, Bool, false, not, ◌==◌, ◌&&◌, ◌||◌, List, [], ◌∷◌, length, codes, bytes_eq, Option, Some, None, option_map, if◌then◌else◌}
 use Rattle.std.specs.List.{list_all}
+use Rattle.std.specs.Option.{option_and_then}
+use Rattle.bk_parse.specs.Numbers.{number_of}
+use Rattle.module_gen.specs.Generated.{most_functions}
 use Rattle.beam_cli.specs.declared.command.Command.{Command}
-use Rattle.beam_cli.specs.declared.command.Command.TheVariants.{Info, Show, Disasm, Asm, Strip, Canon, Cmp, Validate}
+use Rattle.beam_cli.specs.declared.command.Command.TheVariants.{Info, Show, Disasm, Asm, Strip, Canon, Cmp, Validate, Gen}
 use Rattle.beam_cli.specs.declared.shown.Shown.{Shown}
 use Rattle.beam_cli.specs.declared.shown.Shown.TheVariants.{Atoms, Imports, Exports, Locals, Funs, Literals, Lines, Attributes, Compile}
 
@@ -50,6 +53,23 @@ command_by word =
 abbrev pub on_files : List (List ℕ) → Option Command → Option Asked
 on_files names command = if list_all is_name names then option_map (λ c. record { command = c; names = names }) command else None
 
+-- a number of functions that a module can be made of
+abbrev pub in_range : ℕ → Option ℕ
+in_range n = if nat_le 1 n && nat_le n most_functions then Some n else None
+
+-- the number of functions that a word tells, in decimal without leading zeros
+unfoldable pub count_by : List ℕ → Option ℕ
+count_by word = option_and_then in_range (number_of (2 ^ 32) word)
+
+-- `gen` with a number, which reads no file
+unfoldable pub asked_to_generate : List ℕ → List ℕ → Option Asked
+asked_to_generate word count = if bytes_eq word (codes "gen") then option_map (λ n. record { command = Gen n; names = [] }) (count_by count) else None
+
+-- a command of two words, the first of which names this command on a file or none
+abbrev pub asked_by_two : Option Command → List ℕ → List ℕ → Option Asked
+asked_by_two (Some command) word second = on_files (second ∷ []) (Some command)
+asked_by_two None word second = asked_to_generate word second
+
 -- the word that names standard input
 abbrev pub is_input : List ℕ → Bool
 is_input word = bytes_eq word (codes "-")
@@ -63,14 +83,20 @@ asked_by_three word first second =
 
 -- what the words ask for; none where they are not in the grammar
 abbrev pub asked_by : List (List ℕ) → Option Asked
-asked_by (word ∷ name ∷ []) = on_files (name ∷ []) (command_by word)
+asked_by (word ∷ second ∷ []) = asked_by_two (command_by word) word second
 asked_by (word ∷ first ∷ second ∷ []) = asked_by_three word first second
 asked_by words = None
 
 -- how many files a command reads
 abbrev pub file_count : Command → ℕ
 file_count Cmp = 2
+file_count (Gen n) = 0
 file_count command = 1
+
+-- a module can be made of as many functions as the command says
+abbrev pub IsInRange : Command → Type 0
+IsInRange (Gen n) = (1 ≤ n) × (n ≤ most_functions)
+IsInRange command = ⊤
 
 -- the names of the files, in the order of the words
 abbrev pub named : Option Asked → List (List ℕ)

@@ -1,12 +1,14 @@
 //! The words of the command line.
 
-ghost use Rattle.std.specs.Prelude.{◌≡◌, ◌<◌, [], ◌∷◌, length, IfSome, option_map};
+ghost use Rattle.std.specs.Prelude.{◌≡◌, ◌≤◌, [], ◌∷◌, length, IfSome, option_map};
 ghost use Rattle.std.specs.List.{list_all};
-ghost use Rattle.beam_cli.specs.Words.{asked_by, asked_by_three, command_by, file_count, is_input, is_name, names_by, on_files, shown_by};
+ghost use Rattle.beam_cli.specs.Words.{IsInRange, asked_by, asked_by_three, asked_by_two, asked_to_generate, command_by, count_by, file_count, is_input, is_name, names_by, on_files, shown_by};
 ghost use Rattle.beam_cli.specs.Asking.{asked};
 
 use crate::shown::Shown;
 use bk_base::{Text, WordList};
+use bk_parse::read_u32;
+use module_gen::MOST_FUNCTIONS;
 
 /// What is to be done with files.
 #[derive(Clone, Copy, Debug, PartialEq, Eq)]
@@ -27,6 +29,8 @@ pub enum Command {
     Cmp,
     /// Judges the code of a module.
     Validate,
+    /// Makes a module of so many functions, and judges it.
+    Gen(u32),
 }
 
 /// A command, on the files with these names in the order of the words.
@@ -91,6 +95,7 @@ fn shown_by(word: &Text) -> Option<Shown>
 fn command_by(word: &Text) -> Option<Command>
     ensures named { result ≡ command_by word.now }
     ensures files { IfSome result (λ command. file_count command ≡ 1) }
+    ensures range { IfSome result IsInRange }
 {
     let word = word.as_bytes();
     if word == b"info".as_slice() {
@@ -112,15 +117,59 @@ fn command_by(word: &Text) -> Option<Command>
 
 // A command on files, where each of the words names one.
 fn on_files(names: &[Text], command: Option<Command>) -> Option<Request<'_>>
-    requires { IfSome command (λ command. length names.now ≡ file_count command) }
+    requires files { IfSome command (λ command. length names.now ≡ file_count command) }
+    requires range { IfSome command IsInRange }
     ensures asked { option_map asked result ≡ on_files names.now command }
     ensures files { IfSome result (λ request. length request.names.now ≡ file_count request.command) }
+    ensures range { IfSome result (λ request. IsInRange request.command) }
 {
     let command = command?;
     if !names.iter().all(names_file) {
         return None;
     }
     Some(Request { command, names })
+}
+
+// The number of functions that a word tells.
+#[tactic(auto, unfolding(crate::specs::Words::count_by))]
+fn count_by(word: &Text) -> Option<u32>
+    ensures told { result ≡ count_by word.now }
+    ensures range { IfSome result (λ n. IsInRange (Command.Gen n)) }
+{
+    let count = read_u32(word.as_bytes())?;
+    if 1 <= count && count <= MOST_FUNCTIONS {
+        Some(count)
+    } else {
+        None
+    }
+}
+
+// `gen` with a number, which reads no file.
+#[tactic(auto, unfolding(crate::specs::Words::asked_to_generate))]
+fn to_generate<'a>(word: &Text, count: &Text, names: &'a [Text]) -> Option<Request<'a>>
+    requires { names.now ≡ [] }
+    ensures asked { option_map asked result ≡ asked_to_generate word.now count.now }
+    ensures files { IfSome result (λ request. length request.names.now ≡ file_count request.command) }
+    ensures range { IfSome result (λ request. IsInRange request.command) }
+{
+    if word.as_bytes() != b"gen".as_slice() {
+        return None;
+    }
+    let command = Command::Gen(count_by(count)?);
+    Some(Request { command, names })
+}
+
+// A command of two words, of which the last one is this.
+fn of_two<'a>(word: &Text, second: &Text, names: &'a [Text]) -> Option<Request<'a>>
+    requires { names.now ≡ second.now ∷ [] }
+    ensures asked { option_map asked result ≡ asked_by_two (command_by word.now) word.now second.now }
+    ensures files { IfSome result (λ request. length request.names.now ≡ file_count request.command) }
+    ensures range { IfSome result (λ request. IsInRange request.command) }
+{
+    match command_by(word) {
+        Some(command) => on_files(names, Some(command)),
+        None => to_generate(word, second, &names[1..]),
+    }
 }
 
 // Whether a word names standard input.
@@ -136,6 +185,7 @@ fn of_three<'a>(word: &Text, first: &Text, second: &Text, names: &'a [Text]) -> 
     requires { names.now ≡ first.now ∷ second.now ∷ [] }
     ensures asked { option_map asked result ≡ asked_by_three word.now first.now second.now }
     ensures files { IfSome result (λ request. length request.names.now ≡ file_count request.command) }
+    ensures range { IfSome result (λ request. IsInRange request.command) }
 {
     let word = word.as_bytes();
     if word == b"show".as_slice() {
@@ -151,10 +201,11 @@ fn of_three<'a>(word: &Text, first: &Text, second: &Text, names: &'a [Text]) -> 
 pub fn request_from(words: &WordList) -> Option<Request<'_>>
     ensures asked { option_map asked result ≡ asked_by words.now }
     ensures files { IfSome result (λ request. length request.names.now ≡ file_count request.command) }
+    ensures range { IfSome result (λ request. IsInRange request.command) }
 {
     let words = words.as_slice();
     match words {
-        [word, _] => on_files(&words[1..], command_by(word)),
+        [word, second] => of_two(word, second, &words[1..]),
         [word, first, second] => of_three(word, first, second, &words[1..]),
         _ => None,
     }

@@ -5,6 +5,7 @@ ghost use Rattle.std.specs.Prelude.{◌≡◌, [], ◌∷◌, IfOk};
 
 mod command;
 mod comparing;
+mod generating;
 mod laws;
 mod loading;
 mod making;
@@ -37,6 +38,8 @@ use std::io;
 use std::process::ExitCode;
 use std::rt::Env;
 
+#[cfg(test)]
+mod generating_tests;
 #[cfg(test)]
 mod listing_tests;
 #[cfg(test)]

@@ -1,22 +1,24 @@
 //! Making the output of a command.
 
-ghost use Rattle.std.specs.Prelude.{◌≡◌, ◌+◌, ◌≤◌, ◌⊎◌, ℕ, All, List, Result, length, map, IfOk, IfErr, IfSome, OnOk};
+ghost use Rattle.std.specs.Prelude.{◌≡◌, ◌+◌, ◌≤◌, ◌⊎◌, ℕ, All, List, Result, Ok, length, map, IfOk, IfErr, IfSome, OnOk};
 ghost use Rattle.bk_codec.specs.Reading.{GivesAll};
 ghost use Rattle.bk_port.specs.Causes.{Rose};
 ghost use Rattle.bk_port.specs.Reading.{HasReadAtMost};
 ghost use Rattle.bk_port.specs.declared.reading.TheConstants.{MOST_BYTES};
-ghost use Rattle.beam_cli.specs.Words.{file_count};
+ghost use Rattle.beam_cli.specs.Words.{IsInRange, file_count};
 ghost use Rattle.beam_cli.specs.Asking.{asked};
 ghost use Rattle.beam_cli.specs.Files.{IsFirst, named_file};
 ghost use Rattle.beam_cli.specs.declared.refusal.Refusal.{Refusal};
 ghost use Rattle.beam_cli.specs.Made.{GivesOf, Made, made_of_output, print_read, read_of};
 ghost use Rattle.beam_cli.specs.Answer.{made, asm_output, info_output, disasm_output, strip_output, canon_output, output_of, asked_answer};
+ghost use Rattle.beam_cli.specs.Generating.{generated_output};
 ghost use Rattle.beam_cli.specs.Outcome.{SomeLeft};
 ghost use Rattle.beam_cli.specs.Reasons.{IsRefusal};
 ghost use Rattle.beam_cli.specs.Stopping.{HasReason, IsReadFault, IsTooLarge};
 
 use crate::command::{Command, Request};
 use crate::comparing::compared;
+use crate::generating::generated_output;
 use crate::loading::{LoadedFile, load_files};
 use crate::needs::{form_of, listed_value, value_of_file};
 use crate::output::Output;
@@ -25,7 +27,7 @@ use crate::showing::show_text;
 use crate::stop::Stop;
 use crate::validating::validated;
 use beam_module::{canon, strip};
-use bk_base::Bytes;
+use bk_base::{Bytes, NoMemory};
 use bk_port::Host;
 use iff_form::info_text;
 use listing_out::listing;
@@ -101,6 +103,17 @@ fn checked<'a>(file: &LoadedFile<'a>, output: Result<Output, Refusal>) -> Result
     }
 }
 
+// The output of `gen`.
+fn generated<'a>(alloc: Global, functions: u32) -> Result<Output, Stop<'a>>
+    requires { IsInRange (Command.Gen functions) }
+    ensures { GivesOf made_of_output result (Ok (generated_output functions)) }
+{
+    match generated_output(alloc, functions) {
+        Ok(output) => Ok(output),
+        Err(NoMemory) => Err(Stop::NoMemory),
+    }
+}
+
 // The output of a command for its files. Each file is refused before the next is looked at.
 fn output_of<'a>(
     alloc: Global,
@@ -108,6 +121,7 @@ fn output_of<'a>(
     files: &[LoadedFile<'a>],
 ) -> Result<Output, Stop<'a>>
     requires count { length files.now ≡ file_count command }
+    requires range { IsInRange command }
     requires sizes { All (λ file. length file.bytes.items ≤ MOST_BYTES) files.now }
     ensures { GivesOf made_of_output result (output_of command (map named_file files.now)) }
 {
@@ -123,6 +137,7 @@ fn output_of<'a>(
         Command::Canon => printed(&files[0], canon_of(alloc, files[0].bytes.as_slice())),
         Command::Cmp => compared(alloc, &files[0], &files[1]),
         Command::Validate => checked(&files[0], validated(alloc, files[0].bytes.as_slice())),
+        Command::Gen(functions) => generated(alloc, functions),
     }
 }
 
@@ -132,7 +147,8 @@ pub fn make<'a, H: Host>(
     host: &mut H,
     request: Request<'a>,
 ) -> Result<Output, Stop<'a>>
-    requires { length request.names.now ≡ file_count request.command }
+    requires files { length request.names.now ≡ file_count request.command }
+    requires range { IsInRange request.command }
     ensures ok { IfOk result (λ output. IfSome (asked_answer (H.holds host.old) (asked request.entry)) (λ a. a ≡ made (made_of_output output))) }
     ensures reason { IfErr result (HasReason (asked_answer (H.holds host.old) (asked request.entry))
         (λ n. Rose (H.faults host.old n) (H.faults host.new n)) request.entry.names.now) }

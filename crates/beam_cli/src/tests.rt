@@ -163,6 +163,15 @@ fn words_outside_the_grammar_are_refused(rt: HostRuntime) -> Result<(), Fail> {
         &["cmp", "F", "F", "F"],
         &["canon", "F", "F"],
         &["strip"],
+        &["gen"],
+        &["gen", "0"],
+        &["gen", "2001"],
+        &["gen", "01"],
+        &["gen", "+1"],
+        &["gen", "1 "],
+        &["gen", "4294967297"],
+        &["gen", "F"],
+        &["gen", "1", "1"],
         &["--help"],
     ] {
         let found = call(rt.alloc(), words, SAMPLE, 1000)?;

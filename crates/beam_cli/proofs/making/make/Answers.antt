@@ -29,7 +29,7 @@ output_of-requires-clause-sizes g c =
     subst (All (λ (f : LoadedFile). length f.bytes.items ≤ MOST_BYTES)) (sym c.as_slice.ensures.value) (loaded_are_sized (g.H.Host.holds c.args.host.now) c.args.request.names.now c.in_ok-files.files.items c.in_ok-files.ensures.loaded)
 
 pub output_of-requires-clause-count : goal.output_of-requires-clause-count
-output_of-requires-clause-count g c = ap length c.as_slice.ensures.value ∙ loaded_as_long (g.H.Host.holds c.args.host.now) c.args.request.names.now c.in_ok-files.files.items c.in_ok-files.ensures.loaded ∙ c.requires
+output_of-requires-clause-count g c = ap length c.as_slice.ensures.value ∙ loaded_as_long (g.H.Host.holds c.args.host.now) c.args.request.names.now c.in_ok-files.files.items c.in_ok-files.ensures.loaded ∙ c.requires.files
 
 pub returns-clause-ok : goal.returns-clause-ok
 returns-clause-ok g c =
@@ -38,5 +38,5 @@ returns-clause-ok g c =
 
 pub returns-clause-reason : goal.returns-clause-reason
 returns-clause-reason g c =
-    make_reason (g.H.Host.holds c.args.host.now) (asked c.args.request) c.in_ok-files.files.items (λ n. Rose (g.H.Host.faults c.args.host.now n) (g.H.Host.faults c.load_files.new.host n)) c.output_of.result c.in_ok-files.ensures.loaded c.requires
+    make_reason (g.H.Host.holds c.args.host.now) (asked c.args.request) c.in_ok-files.files.items (λ n. Rose (g.H.Host.faults c.args.host.now n) (g.H.Host.faults c.load_files.new.host n)) c.output_of.result c.in_ok-files.ensures.loaded c.requires.files
     (subst (λ (files : List LoadedFile). GivesOf made_of_output c.output_of.result (output_of c.args.request.command (map named_file files))) c.as_slice.ensures.value c.output_of.ensures)
