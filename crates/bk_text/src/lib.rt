@@ -5,7 +5,7 @@
 mod decimal;
 mod hex_digits;
 
-pub use decimal::{put_marked, put_number};
+pub use decimal::{put_lettered, put_marked, put_natural, put_number};
 pub use hex_digits::{ROW, put_hex, put_hex_backwards, put_row};
 
 #[cfg(test)]

@@ -23,3 +23,15 @@ fn numbers_and_digits_are_put(rt: HostRuntime) -> Result<(), Fail> {
     assert_eq!(rt; out.as_slice(), text.as_slice());
     Ok(())
 }
+
+#[test]
+fn short_and_long_numbers_are_put(rt: HostRuntime) -> Result<(), Fail> {
+    let mut out = Bytes::new(rt.alloc());
+    for number in [0, 9, 10, 99, 100] {
+        put_natural(&mut out, number)?;
+        put_lettered(&mut out, b'x', number)?;
+        out.push(b' ')?;
+    }
+    assert_eq!(rt; out.as_slice(), b"0x0 9x9 10x10 99x99 100x100 ".as_slice());
+    Ok(())
+}

@@ -5,7 +5,7 @@ ghost use Rattle.std.specs.List.{join_by};
 ghost use Rattle.operand_text.specs.Operand.{register_text, plain_text, pair_text, operand_text};
 
 use bk_base::{Bytes, NoMemory};
-use bk_text::{put_hex, put_marked, put_number};
+use bk_text::{put_hex, put_lettered, put_marked, put_natural};
 use compact_term::{Operand, Plain, Reg};
 
 /// Appends the text of an operand to `out`, its numbers in decimal.
@@ -31,22 +31,22 @@ fn put_plain(out: &mut Bytes, plain: &Plain) -> Result<(), NoMemory>
     ensures { OnOk result (out.new.items ≡ out.old.items ++ plain_text plain.now) }
 {
     match plain {
-        Plain::U(n) => put_marked(out, b"u", *n),
+        Plain::U(n) => put_lettered(out, b'u', *n),
         Plain::I(n) => put_marked(out, b"i", n.value()),
         Plain::Wide(bytes) => {
             out.push(b'w')?;
             put_hex(out, bytes.as_slice())
         }
-        Plain::A(n) => put_marked(out, b"a", *n),
-        Plain::X(n) => put_marked(out, b"x", *n),
-        Plain::Y(n) => put_marked(out, b"y", *n),
-        Plain::F(n) => put_marked(out, b"f", *n),
-        Plain::H(n) => put_marked(out, b"h", *n),
+        Plain::A(n) => put_lettered(out, b'a', u64::from(*n)),
+        Plain::X(n) => put_lettered(out, b'x', u64::from(*n)),
+        Plain::Y(n) => put_lettered(out, b'y', u64::from(*n)),
+        Plain::F(n) => put_lettered(out, b'f', u64::from(*n)),
+        Plain::H(n) => put_lettered(out, b'h', u64::from(*n)),
         Plain::Fr(n) => put_marked(out, b"fr", *n),
-        Plain::Lit(n) => put_marked(out, b"l", *n),
+        Plain::Lit(n) => put_lettered(out, b'l', *n),
         Plain::Typed(register, n) => {
             put_register(out, *register)?;
-            put_marked(out, b"/", *n)
+            put_lettered(out, b'/', *n)
         }
     }
 }
@@ -56,8 +56,8 @@ pub fn put_register(out: &mut Bytes, register: Reg) -> Result<(), NoMemory>
     ensures { OnOk result (out.new.items ≡ out.old.items ++ register_text register) }
 {
     match register {
-        Reg::X(n) => put_marked(out, b"x", n),
-        Reg::Y(n) => put_marked(out, b"y", n),
+        Reg::X(n) => put_lettered(out, b'x', u64::from(n)),
+        Reg::Y(n) => put_lettered(out, b'y', u64::from(n)),
     }
 }
 
@@ -93,6 +93,6 @@ fn put_pairs(out: &mut Bytes, pairs: &[(u64, u64)]) -> Result<(), NoMemory>
 fn put_pair(out: &mut Bytes, pair: (u64, u64)) -> Result<(), NoMemory>
     ensures { OnOk result (out.new.items ≡ out.old.items ++ pair_text pair) }
 {
-    put_number(out, pair.0)?;
-    put_marked(out, b":", pair.1)
+    put_natural(out, pair.0)?;
+    put_lettered(out, b':', pair.1)
 }
