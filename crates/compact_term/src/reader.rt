@@ -1,10 +1,11 @@
 //! Reading an operand.
 
-ghost use Rattle.std.specs.Prelude.{◌≡◌, ◌⊎◌, ℕ, ◌<◌, ◌≤◌, ◌^◌, ◌%◌, ◌++◌, List, length, drop, Ok, Err, IfOk, IfErr, OnErr};
+ghost use Rattle.std.specs.Prelude.{◌≡◌, ◌⊎◌, ℕ, ◌<◌, ◌≤◌, ◌^◌, ◌%◌, ◌++◌, List, length, drop, Ok, Err, IfOk, IfErr, IfSome, OnErr};
 ghost use Rattle.bk_base.specs.Place.{end_of};
 ghost use Rattle.bk_codec.specs.Exact.{Begins};
-ghost use Rattle.bk_codec.specs.Reading.{Gives, Fails, many_at};
+ghost use Rattle.bk_codec.specs.Reading.{Gives, Fails, giving, many_at};
 ghost use Rattle.compact_term.specs.declared.operand.Operand.{Operand};
+ghost use Rattle.compact_term.specs.declared.reader.Head.TheVariants as heads;
 ghost use Rattle.compact_term.specs.Spelling.{Spells};
 ghost use Rattle.compact_term.specs.Operand.{MeetsType, IsProper};
 ghost use Rattle.compact_term.specs.Reading.{below_at, integer_at, u_at, reg_at, extended_by, tagged, head_at, member_at, pair_at, operand_at};
@@ -26,10 +27,13 @@ pub(crate) enum Head {
 }
 
 // An integer of any length.
-#[tactic(auto, unfolding(crate::specs::Reading::integer_at))]
+#[tactic(auto, unfolding(crate::specs::Reading::integer_at, crate::specs::Reading::short_at))]
 fn integer(alloc: Global, cur: &mut Cursor<'_>, first: u8) -> Result<Plain, OperandRefusal>
     ensures { Gives OperandRefusal.NoMemory (λ p. p) cur.new.rest result (integer_at first cur.old.rest) }
 {
+    if first / 8 % 2 == 0 {
+        return Ok(Plain::I(Integer128::from(i128::from(first / 16))));
+    }
     if first < LONG {
         let z = short(cur, first)?;
         return Ok(Plain::I(Integer128::from(i128::from(z))));
@@ -188,7 +192,9 @@ fn whole_operand(alloc: Global, cur: &mut Cursor<'_>) -> Result<Operand, Operand
     }
 }
 
-// The operand at the front of the bytes, and how many of them spell it.
+// The operand at the front of the bytes, and how many of them spell it. It stands apart, so that
+// operands of one byte don't pay for its room.
+#[inline(never)]
 fn front(alloc: Global, bytes: &[u8]) -> Result<(Operand, usize), OperandRefusal>
     ensures found { IfOk result (λ r. Begins (Spells r.0) bytes.now (drop r.1 bytes.now)) }
     ensures within { IfOk result (λ r. r.1 ≤ length bytes.now) }
@@ -203,6 +209,41 @@ fn front(alloc: Global, bytes: &[u8]) -> Result<(Operand, usize), OperandRefusal
     Ok((operand, len))
 }
 
+// The operand that a byte spells alone, unless the byte says more than a tag and a small number.
+#[tactic(auto, unfolding(crate::specs::Reading::tagged, crate::specs::Reading::integer_at, crate::specs::Reading::below_at, crate::specs::Reading::whole_at, crate::specs::Reading::short_at))]
+fn plain_byte(first: u8) -> Option<Plain>
+    ensures { IfSome result (λ p. (bytes : List ℕ) → tagged (first % 8) first bytes ≡ giving (heads.Plain p) bytes) }
+{
+    if first / 8 % 2 != 0 {
+        return None;
+    }
+    let n = u32::from(first / 16);
+    match first % 8 {
+        0 => Some(Plain::U(u64::from(n))),
+        1 => Some(Plain::I(Integer128::from(i128::from(n)))),
+        2 => Some(Plain::A(n)),
+        3 => Some(Plain::X(n)),
+        4 => Some(Plain::Y(n)),
+        5 => Some(Plain::F(n)),
+        6 => Some(Plain::H(n)),
+        _ => None,
+    }
+}
+
+// The operand at the front of the bytes, where a single byte spells it.
+#[tactic(auto, unfolding(crate::specs::Reading::head_at, crate::specs::Reading::operand_at))]
+fn small_front(bytes: &[u8]) -> Option<Operand>
+    ensures found { IfSome result (λ o. Begins (Spells o) bytes.now (drop 1 bytes.now)) }
+    ensures within { IfSome result (λ _. 1 ≤ length bytes.now) }
+    ensures proper { IfSome result IsProper }
+    ensures meets_type { IfSome result MeetsType }
+    ensures read { IfSome result (λ o. operand_at bytes.now ≡ Ok (o, drop 1 bytes.now)) }
+{
+    let first = bytes.first()?;
+    let plain = plain_byte(*first)?;
+    Some(Operand::One(plain))
+}
+
 /// The operand at the front of what is left. The cursor moves past just its bytes, and stays after a
 /// refusal.
 ///
@@ -210,6 +251,7 @@ fn front(alloc: Global, bytes: &[u8]) -> Result<(Operand, usize), OperandRefusal
 /// wrong with them first from the left, in this order: a tag is looked at before its number, a length
 /// of more than 16 bytes under another tag than `i` before these bytes, and the bound of a number
 /// after its bytes.
+#[inline]
 pub fn read_operand(alloc: Global, cur: &mut Cursor<'_>) -> Result<Operand, OperandRefusal>
     // What was read is spelled there, and the cursor is just behind it.
     ensures found { IfOk result (λ o. Begins (Spells o) cur.old.rest cur.new.rest) }
@@ -226,6 +268,10 @@ pub fn read_operand(alloc: Global, cur: &mut Cursor<'_>) -> Result<Operand, Oper
     ensures unmoved { OnErr result (cur.new ≡ cur.old) }
 {
     let bytes = cur.rest();
+    if let Some(operand) = small_front(bytes) {
+        let _ = cur.take(1);
+        return Ok(operand);
+    }
     let (operand, len) = front(alloc, bytes)?;
     let _ = cur.take(len);
     Ok(operand)

@@ -4,7 +4,7 @@ use std::alloc::Global;
 use std::test::Fail;
 
 // Each spelling with what it reads as, which takes all of its bytes, or its refusal, which moves nothing.
-const OPERANDS: [(&[u8], &str); 26] = [
+const OPERANDS: [(&[u8], &str); 27] = [
     (&[0xf1], "Ok(One(I(15)))"),
     (&[0x09, 0x10], "Ok(One(I(16)))"),
     (&[0xe9, 0xff], "Ok(One(I(2047)))"),
@@ -18,6 +18,7 @@ const OPERANDS: [(&[u8], &str); 26] = [
     (&[0x0b, 0x01], "Ok(One(X(1)))"),
     (&[0x04], "Ok(One(Y(0)))"),
     (&[0x35], "Ok(One(F(3)))"),
+    (&[0x36], "Ok(One(H(3)))"),
     (&[0x0e, 0x41], "Ok(One(H(65)))"),
     (&[0x27, 0x00], "Ok(One(Fr(0)))"),
     (&[0x47, 0x70], "Ok(One(Lit(7)))"),
@@ -90,7 +91,7 @@ fn operands_with_parts_are_read(rt: HostRuntime) -> Result<(), Fail> {
 }
 
 // Each spelling with the canonical one of the same operand.
-const REWRITTEN: [(&[u8], &[u8]); 13] = [
+const REWRITTEN: [(&[u8], &[u8]); 14] = [
     (&[0xf1], &[0xf1]),
     (&[0x09, 0x10], &[0x09, 0x10]),
     (&[0xe9, 0xff], &[0xe9, 0xff]),
@@ -122,6 +123,7 @@ const REWRITTEN: [(&[u8], &[u8]); 13] = [
         &[0x37, 0x20, 0x00, 0x50, 0x20, 0x10],
     ),
     (&[0x17, 0x20, 0x12, 0x25], &[0x17, 0x20, 0x12, 0x25]),
+    (&[0x17, 0x10, 0x51], &[0x17, 0x10, 0x51]),
 ];
 
 // How long the canonical spelling of the operand is that the bytes spell, and that spelling, written

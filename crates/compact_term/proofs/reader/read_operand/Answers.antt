@@ -12,3 +12,7 @@ returns-in_err-operand-clause-only c o text more spelt is =
 pub returns-clause-only : goal.returns-clause-only
 returns-clause-only c o text more spelt is =
     inl (ap (λ (x : _). Ok x) (same_operand o c.in_ok-operand.operand text more c.args.cur.now.rest (drop c.in_ok-operand.len c.args.cur.now.rest) (rw c.rest-bytes.ensures at c.in_ok-operand.ensures.found) spelt is))
+
+pub returns-in-Some-clause-only : goal.returns-in-Some-clause-only
+returns-in-Some-clause-only c o text more spelt is =
+    inl (ap (λ (x : _). Ok x) (same_operand o c.in-Some.operand text more c.args.cur.now.rest (drop 1 c.args.cur.now.rest) (rw c.rest-bytes.ensures at c.in-Some.ensures.found) spelt is))
