@@ -30,7 +30,7 @@ use beam_module::{canon, strip};
 use bk_base::{Bytes, NoMemory};
 use bk_port::Host;
 use iff_form::info_text;
-use listing_out::listing;
+use listing_out::file_listing;
 use std::alloc::Global;
 
 // The output of `info` for these bytes.
@@ -47,8 +47,10 @@ fn listing_of(alloc: Global, bytes: &[u8]) -> Result<Bytes, Refusal>
     ensures text { GivesAll Refusal.NoMemory (λ text. text.items) result (disasm_output bytes.now) }
     ensures kind { IfErr result IsRefusal }
 {
-    let value = value_of_file(alloc, bytes)?;
-    Ok(listing(alloc, &value)?)
+    match file_listing(alloc, bytes) {
+        Ok(text) => Ok(text),
+        Err(refusal) => Err(Refusal::of_module(refusal)),
+    }
 }
 
 // The output of `asm` for this text.

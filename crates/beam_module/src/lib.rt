@@ -25,7 +25,7 @@ pub use laws::{
 pub use module::Module;
 pub use naming::module_name;
 pub use opening::open_module;
-pub use reading::read_file;
+pub use reading::{form_from, read_file};
 pub use refusal::{ModuleRefusal, TableWhy};
 pub use stripping::strip;
 pub use writing::canon;

@@ -21,8 +21,8 @@ use std::alloc::Global;
 /// The id of the chunk that holds the code.
 pub(crate) const CODE: Id = Id(*b"Code");
 
-/// The form that the bytes are.
-pub(crate) fn form_from<'a>(alloc: Global, bytes: &'a [u8]) -> Result<Form<'a>, ModuleRefusal>
+/// The form that the whole of the bytes is, with the refusals of a file.
+pub fn form_from<'a>(alloc: Global, bytes: &'a [u8]) -> Result<Form<'a>, ModuleRefusal>
     ensures found { IfOk result (λ chunks. IsForm chunks bytes.now) }
     ensures exact { GivesAll ModuleRefusal.NoMemory (λ chunks. chunks) result (form_or bytes.now) }
 {

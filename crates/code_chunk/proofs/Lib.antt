@@ -1,5 +1,6 @@
 pub mod Front
 pub mod Shrinking
+pub mod Opcodes
 pub mod Instrs
 pub mod Headers
 pub mod Codes

@@ -24,11 +24,15 @@ abbrev pub instr_with : ℕ → ℕ → Option ℕ → List ℕ → Result (Inst
 instr_with size op (Some arity) bytes = made_of (λ operands. record { op = op; operands = operands }) (many_at (operand_in size) arity bytes)
 instr_with size op None bytes = Err (refusals.Opcode (size - suc (length bytes)) op)
 
+-- an instruction before those that are read behind it
+abbrev pub before : Instruction → Result (List Instruction) CodeRefusal → Result (List Instruction) CodeRefusal
+before i read = read >>= λ others. Ok (i ∷ others)
+
 -- the instructions up to the end of a payload of this size, of which there are at most n
 unfoldable pub instrs_at : ℕ → ℕ → List ℕ → Result (List Instruction) CodeRefusal
 instrs_at size n [] = Ok []
 instrs_at size zero (op ∷ bytes) = Ok []
-instrs_at size (suc n) (op ∷ bytes) = instr_with size op (arity_of op) bytes >>= λ i. (instrs_at size n i.1 >>= λ others. Ok (i.0 ∷ others))
+instrs_at size (suc n) (op ∷ bytes) = instr_with size op (arity_of op) bytes >>= λ i. before i.0 (instrs_at size n i.1)
 
 -- a sub-header of this size
 abbrev pub sized_at : ℕ → List ℕ → Result (List ℕ × List ℕ) CodeRefusal

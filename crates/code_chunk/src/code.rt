@@ -1,13 +1,13 @@
 //! The value of the chunk.
 
-ghost use Rattle.std.specs.Prelude.{◌≡◌, ◌≤◌, ◌⊎◌, length, IfOk, IfErr, Ok, Err};
-ghost use Rattle.bk_codec.specs.Reading.{Gives, GivesAll};
+ghost use Rattle.std.specs.Prelude.{◌≡◌, ◌≤◌, ◌⊎◌, [], length, IfOk, IfErr, Ok, Err};
+ghost use Rattle.bk_codec.specs.Reading.{Gives, GivesAll, made_of};
 ghost use Rattle.code_chunk.specs.declared.code.CodeVal.{CodeVal};
 ghost use Rattle.code_chunk.specs.Spelling.{SpellsCode};
 ghost use Rattle.code_chunk.specs.Code.{CodeMeetsType, IsProperCode};
 ghost use Rattle.code_chunk.specs.Stop.{IsWrong};
 ghost use Rattle.bk_base.specs.Place.{end_of};
-ghost use Rattle.code_chunk.specs.Reading.{header_at, code_at};
+ghost use Rattle.code_chunk.specs.Reading.{header_at, code_of, code_at};
 
 use crate::instructions::{InstrList, instructions};
 use crate::refusal::CodeRefusal;
@@ -55,21 +55,34 @@ fn sub_header<'a>(cur: &mut Cursor<'a>) -> Result<&'a [u8], CodeRefusal>
     Ok(header)
 }
 
+/// The sub-header of a code chunk, as code without instructions. Behind it the cursor stands before the
+/// first opcode.
+///
+/// It fails where the sub-header is cut, shorter than 16 bytes, or of another format than 0.
+#[tactic(auto, unfolding(crate::specs::Reading::header_at))]
+pub fn read_head(alloc: Global, cur: &mut Cursor<'_>) -> Result<CodeVal, CodeRefusal>
+    ensures read { Gives CodeRefusal.NoMemory (λ c. c) cur.new.rest result (made_of (λ header. code_of header []) (header_at cur.old.rest)) }
+    ensures end { end_of cur.new ≡ end_of cur.old }
+{
+    let header = sub_header(cur)?;
+    Ok(CodeVal {
+        extra: ByteList::from_slice(alloc, &header[16..])?,
+        max_op: BigEndian::read_u32(&header[4..]),
+        labels: BigEndian::read_u32(&header[8..]),
+        functions: BigEndian::read_u32(&header[12..]),
+        instrs: InstrList::new(alloc),
+    })
+}
+
 // What the whole payload holds, read from the left.
 #[tactic(auto, unfolding(crate::specs::Reading::code_at))]
 fn whole_code(alloc: Global, s: &[u8]) -> Result<CodeVal, CodeRefusal>
     ensures { GivesAll CodeRefusal.NoMemory (λ c. c) result (code_at s.now) }
 {
     let mut cur = Cursor::new(s);
-    let header = sub_header(&mut cur)?;
-    let instrs = instructions(alloc, &mut cur)?;
-    Ok(CodeVal {
-        extra: ByteList::from_slice(alloc, &header[16..])?,
-        max_op: BigEndian::read_u32(&header[4..]),
-        labels: BigEndian::read_u32(&header[8..]),
-        functions: BigEndian::read_u32(&header[12..]),
-        instrs,
-    })
+    let mut code = read_head(alloc, &mut cur)?;
+    code.instrs = instructions(alloc, &mut cur)?;
+    Ok(code)
 }
 
 /// What the payload of a code chunk holds.

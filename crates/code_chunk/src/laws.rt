@@ -1,15 +1,16 @@
 //! What holds of the spellings of instructions and code.
 
-ghost use Rattle.std.specs.Prelude.{◌≡◌, ◌↔◌, ℕ, ◌^◌, ◌<◌, ◌≤◌, ◌++◌, List, length, Err};
+ghost use Rattle.std.specs.Prelude.{◌≡◌, ◌↔◌, ℕ, ◌^◌, ◌<◌, ◌≤◌, ◌++◌, List, ◌∷◌, length, Ok, Err};
 ghost use Rattle.bk_codec.specs.Spelling.{IsBytes};
 ghost use Rattle.bk_codec.specs.Exact.{IsExact};
+ghost use Rattle.op_table.specs.Table.{arity_of};
 ghost use Rattle.op_table.specs.Instruction.{Instruction};
 ghost use Rattle.code_chunk.specs.declared.code.CodeVal.{CodeVal};
 ghost use Rattle.code_chunk.specs.declared.refusal.CodeRefusal.{CodeRefusal};
 ghost use Rattle.code_chunk.specs.Spelling.{SpellsInstr, SpellsCode};
 ghost use Rattle.code_chunk.specs.Code.{InstrMeetsType, CodeMeetsType, IsProperInstr, IsProperCode};
 ghost use Rattle.code_chunk.specs.Canonical.{canonical_instr, canonical_code};
-ghost use Rattle.code_chunk.specs.Reading.{code_at};
+ghost use Rattle.code_chunk.specs.Reading.{before, instr_with, instrs_at, code_at};
 ghost use Rattle.code_chunk.specs.Stop.{IsStop, IsWrong};
 
 /// The reading from left to right accepts exactly the payloads that spell code, each with its value,
@@ -17,6 +18,16 @@ ghost use Rattle.code_chunk.specs.Stop.{IsStop, IsWrong};
 pub fn reading_is_exact()
     ensures exact { IsExact code_at SpellsCode }
     ensures refused { (payload : List ℕ) (e : CodeRefusal) → IsBytes payload → (code_at payload ≡ Err e) ↔ IsWrong e payload }
+{}
+
+/// Instructions are read one by one: one that is read stands before those that are read behind it, and
+/// takes some bytes; where one is refused, the reading is.
+pub fn instructions_are_read_in_order()
+    ensures next { (size op : ℕ) (bytes rest : List ℕ) (i : Instruction) → instr_with size op (arity_of op) bytes ≡ Ok (i, rest)
+        → instrs_at size (length (op ∷ bytes)) (op ∷ bytes) ≡ before i (instrs_at size (length rest) rest) }
+    ensures refused { (size op : ℕ) (bytes : List ℕ) (e : CodeRefusal) → instr_with size op (arity_of op) bytes ≡ Err e
+        → instrs_at size (length (op ∷ bytes)) (op ∷ bytes) ≡ Err e }
+    ensures shorter { (size op : ℕ) (bytes rest : List ℕ) (i : Instruction) → instr_with size op (arity_of op) bytes ≡ Ok (i, rest) → length rest ≤ length bytes }
 {}
 
 /// No spelling of an instruction begins another one, and each is of one instruction.

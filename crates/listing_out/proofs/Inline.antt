@@ -14,12 +14,14 @@ use Rattle.compact_term.specs.declared.operand.Plain.TheVariants as plains
 use Rattle.compact_term.specs.declared.operand.Operand.{Operand}
 use Rattle.compact_term.specs.declared.operand.Operand.TheVariants as operands
 use Rattle.index_tables.specs.Atoms.{atom_name}
+use Rattle.index_tables.specs.Reading.{all_atoms, all_entries}
+use Rattle.index_tables.specs.Shape.{import_shape}
 use Rattle.index_tables.specs.Text.{function_text, import_text}
 use Rattle.index_tables.specs.declared.entry.Import.{Import}
 use Rattle.operand_text.specs.Words.{is_word_byte}
 use Rattle.beam_module.specs.File.{FileChunk}
 use Rattle.listing_out.specs.declared.names.Names.{Names}
-use Rattle.listing_out.specs.Comments.{atoms_in, called, imports_in, is_import_place, item_of, items_from, items_text, lead, names_in, operand_items, shortened}
+use Rattle.listing_out.specs.Comments.{called, is_import_place, item_of, items_from, items_text, lead, names_in, operand_items, payload_in, records_in, shortened}
 use Rattle.listing_out.proofs.Clean.{decimal_word, hex_word, is_inline, no_newline, passes_flat, passes_front, passes_map}
 
 -- ---- names
@@ -74,10 +76,12 @@ pub record AreInline (names : Names) : Type 0 where
   pub imports : list_all (list_all is_inline) names.imports ≡ true
 
 pub names_inline : (v : List FileChunk) → AreInline (names_in v)
-names_inline v = record {
-  atoms = passes_map (list_all is_inline) (λ name. shortened (name_text name)) (λ name. shortened_inline (name_text name) (name_inline name)) (atoms_in v);
-  imports = passes_map (list_all is_inline) (λ x. shortened (import_text (atoms_in v) x)) (λ x. shortened_inline (import_text (atoms_in v) x) (import_inline (atoms_in v) x)) (imports_in v);
-}
+names_inline v =
+    let atoms = records_in all_atoms (payload_in (codes "AtU8") v) in
+    record {
+      atoms = passes_map (list_all is_inline) (λ name. shortened (name_text name)) (λ name. shortened_inline (name_text name) (name_inline name)) atoms;
+      imports = passes_map (list_all is_inline) (λ x. shortened (import_text atoms x)) (λ x. shortened_inline (import_text atoms x) (import_inline atoms x)) (records_in (all_entries import_shape atoms) (payload_in (codes "ImpT") v));
+    }
 
 -- ---- items
 

@@ -12,7 +12,7 @@ any_stays [] = refl
 any_stays (item ∷ items) = refl
 
 -- some items, and then others
-text_joined : (any : Bool) (items others : List (List ℕ)) → items_text any (items ++ others) ≡ items_text any items ++ items_text (any_behind any items) others
+pub text_joined : (any : Bool) (items others : List (List ℕ)) → items_text any (items ++ others) ≡ items_text any items ++ items_text (any_behind any items) others
 text_joined any [] others = refl
 text_joined any (item ∷ items) others =
     ap (λ (t : List ℕ). lead any ++ (item ++ t)) (text_joined true items others ∙ ap (λ (b : Bool). items_text true items ++ items_text b others) (any_stays items))

@@ -1,6 +1,8 @@
 pub mod Rows
 pub mod Texts
+pub mod ReadFile
 pub mod Items
+pub mod Read
 pub mod Bounds
 pub mod Clean
 pub mod Raw

@@ -1,5 +1,5 @@
 -- Lines as text.
-use Rattle.std.proofs.Common.{◌≡◌, ℕ, ◌≤◌, List, [], ◌∷◌, ◌++◌, length, take, refl, ap, ◌∙◌, append_assoc}
+use Rattle.std.proofs.Common.{◌≡◌, ℕ, ◌≤◌, List, [], ◌∷◌, ◌++◌, length, take, refl, ap, ◌∙◌}
 use Rattle.std.proofs.lemmas.Grind.{flat_map-append}
 use Rattle.std.proofs.lemmas.List.{take_all}
 use Rattle.std.specs.Prelude.{codes}
@@ -17,9 +17,3 @@ pub all_put : {A : Type 0} (f : A → List ℕ) (xs items : List A) (i : ℕ) (s
     → length items ≤ i → items ≡ xs → out ≡ start ++ flat_map f (take i items) → out ≡ start ++ flat_map f xs
 all_put f xs items i start out end same put =
     put ∙ ap (λ (ys : List _). start ++ flat_map f ys) (take_all i items end ∙ same)
-
--- a line is put with its newline, and then others
-pub line_put : (out line before new others : List ℕ) → before ≡ out ++ line → new ≡ before ++ codes "\n" → new ++ others ≡ out ++ ((line ++ codes "\n") ++ others)
-line_put out line before new others first newline =
-    ap (λ (t : List ℕ). t ++ others) (newline ∙ ap (λ (t : List ℕ). t ++ codes "\n") first ∙ append_assoc out line (codes "\n"))
-    ∙ append_assoc out (line ++ codes "\n") others

@@ -8,7 +8,6 @@ use Rattle.compact_term.specs.declared.operand.Operand.{Operand}
 use Rattle.compact_term.specs.declared.operand.Operand.TheVariants as operands
 use Rattle.iff_form.specs.Text.{id_text}
 use Rattle.index_tables.specs.Atoms.{atom_called}
-use Rattle.index_tables.specs.declared.entry.Import.{Import}
 use Rattle.index_tables.specs.Reading.{all_atoms, all_entries}
 use Rattle.index_tables.specs.Shape.{import_shape}
 use Rattle.index_tables.specs.Text.{import_text}
@@ -39,21 +38,22 @@ abbrev pub records_in : {A E : Type 0} → (List ℕ → Result (List A) E) → 
 records_in read None = []
 records_in read (Some payload) = read_or_none (read payload)
 
-abbrev pub atoms_in : List FileChunk → List (List ℕ)
-atoms_in v = records_in all_atoms (payload_in (codes "AtU8") v)
-
-abbrev pub imports_in : List FileChunk → List Import
-imports_in v = records_in (all_entries import_shape (atoms_in v)) (payload_in (codes "ImpT") v)
-
 -- at most forty bytes of a text, and a mark where more are cut off
 abbrev pub shortened : List ℕ → List ℕ
 shortened text = if nat_lt 40 (length text) then take 40 text ++ codes "~" else text
 
-abbrev pub names_in : List FileChunk → Names
-names_in v = record {
-  atoms = map (λ name. shortened (name_text name)) (atoms_in v);
-  imports = map (λ x. shortened (import_text (atoms_in v) x)) (imports_in v);
+-- what atoms and imports are called, by the payloads of their tables
+abbrev pub names_with : List (List ℕ) → Option (List ℕ) → Names
+names_with atoms imports = record {
+  atoms = map (λ name. shortened (name_text name)) atoms;
+  imports = map (λ x. shortened (import_text atoms x)) (records_in (all_entries import_shape atoms) imports);
 }
+
+abbrev pub names_of : Option (List ℕ) → Option (List ℕ) → Names
+names_of atoms imports = names_with (records_in all_atoms atoms) imports
+
+abbrev pub names_in : List FileChunk → Names
+names_in v = names_of (payload_in (codes "AtU8") v) (payload_in (codes "ImpT") v)
 
 -- ---- the items of a comment, in the order of the operands
 

@@ -1,4 +1,5 @@
 pub mod Lines
 pub mod Comments
+pub mod Reading
 pub mod Listing
 pub mod Listable

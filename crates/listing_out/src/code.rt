@@ -1,6 +1,6 @@
 //! The lines of code.
 
-ghost use Rattle.std.specs.Prelude.{◌≡◌, ◌∷◌, ◌++◌, map, OnOk};
+ghost use Rattle.std.specs.Prelude.{◌≡◌, ◌∷◌, ◌++◌, map, codes, OnOk};
 ghost use Rattle.listing_out.specs.Lines.{extra_text, code_line, instruction_line, text_of};
 ghost use Rattle.listing_out.specs.Comments.{commented_instruction};
 
@@ -18,7 +18,6 @@ pub(crate) fn put_code(out: &mut Bytes, names: &Names, code: &CodeVal) -> Result
     ensures { OnOk result (out.new.items ≡ out.old.items ++ text_of (code_line code.now ∷ map (commented_instruction names.now) code.now.instrs)) }
 {
     put_header(out, code)?;
-    out.push(b'\n')?;
     for instr in code.instrs.as_slice() {
         put_commented(out, names, instr)?;
         out.push(b'\n')?;
@@ -26,14 +25,16 @@ pub(crate) fn put_code(out: &mut Bytes, names: &Names, code: &CodeVal) -> Result
     Ok(())
 }
 
-fn put_header(out: &mut Bytes, code: &CodeVal) -> Result<(), NoMemory>
-    ensures { OnOk result (out.new.items ≡ out.old.items ++ code_line code.now) }
+/// Appends the line `code H L F E` to `out`.
+pub(crate) fn put_header(out: &mut Bytes, code: &CodeVal) -> Result<(), NoMemory>
+    ensures { OnOk result (out.new.items ≡ out.old.items ++ (code_line code.now ++ codes "\n")) }
 {
     put_marked(out, b"code ", code.max_op)?;
     put_marked(out, b" ", code.labels)?;
     put_marked(out, b" ", code.functions)?;
     out.push(b' ')?;
-    put_extra(out, code.extra.as_slice())
+    put_extra(out, code.extra.as_slice())?;
+    out.push(b'\n')
 }
 
 fn put_extra(out: &mut Bytes, extra: &[u8]) -> Result<(), NoMemory>

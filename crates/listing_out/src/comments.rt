@@ -1,22 +1,30 @@
 //! Comments behind instructions.
 
-ghost use Rattle.std.specs.Prelude.{◌≡◌, ◌++◌, false, IfOk, OnOk};
+ghost use Rattle.std.specs.Prelude.{◌≡◌, ◌++◌, false, slice_get, IfOk, OnOk};
 ghost use Rattle.std.specs.List.{flat_map};
-ghost use Rattle.listing_out.specs.Comments.{any_behind, called, instruction_items, is_import_place, item_of, items_from, items_text, lead, operand_items};
+ghost use Rattle.listing_out.specs.Comments.{any_behind, called, instruction_items, is_import, is_import_place, item_of, items_from, items_text, lead, operand_items};
 
 use crate::names::Names;
 use bk_base::{Bytes, NoMemory};
 use compact_term::{Operand, Plain};
-use op_table::{Instr, Role, op_row};
+use op_table::{Instr, OpRow, Role, op_row};
 
 // Whether the operand at this place, counted from 0, is the number of an import.
 fn is_import_place(op: u8, place: usize) -> bool
     ensures { result ≡ is_import_place op place }
 {
     match op_row(op) {
-        Some(row) => matches!(row.roles.get(place), Some(Role::M)),
+        Some(row) => is_import_of(row, place),
         None => false,
     }
+}
+
+/// Whether the operand at this place, counted from 0, is the number of an import in an instruction of
+/// this row.
+pub(crate) fn is_import_of(row: &OpRow, place: usize) -> bool
+    ensures { result ≡ is_import (slice_get row.now.roles.now place) }
+{
+    matches!(row.roles.get(place), Some(Role::M))
 }
 
 /// Puts the comment of an instruction at the end: what the atoms and imports in its operands are
@@ -32,9 +40,9 @@ pub(crate) fn put_comment(out: &mut Bytes, names: &Names, instr: &Instr) -> Resu
     Ok(())
 }
 
-// Puts the items of an operand, and tells whether any item stands there then; `any` tells whether one
-// stood there before.
-fn put_items(
+/// Puts the items of an operand at the end, and tells whether any item stands there then; `any` tells whether one
+/// stood there before.
+pub(crate) fn put_items(
     out: &mut Bytes,
     names: &Names,
     is_import: bool,

@@ -8,10 +8,10 @@ ghost use Rattle.listing_out.specs.Listing.{IsListing};
 
 use crate::code::put_code;
 use crate::names::Names;
-use crate::payload::put_payload;
+use crate::payload::put_raw;
 use beam_module::{ChunkVal, FileVal};
 use bk_base::{Bytes, NoMemory};
-use iff_form::{Id, IdText};
+use iff_form::Id;
 use op_table::names_are_words;
 use operand_text::operand_texts_are_words;
 use std::alloc::Global;
@@ -48,11 +48,6 @@ fn put_chunk(out: &mut Bytes, names: &Names, chunk: &(Id, ChunkVal)) -> Result<(
 {
     match &chunk.1 {
         ChunkVal::Code(code) => put_code(out, names, code),
-        ChunkVal::Raw(payload) => {
-            out.extend(b"chunk ")?;
-            out.extend(IdText::new(chunk.0).as_bytes())?;
-            out.push(b'\n')?;
-            put_payload(out, payload.as_slice())
-        }
+        ChunkVal::Raw(payload) => put_raw(out, chunk.0, payload.as_slice()),
     }
 }

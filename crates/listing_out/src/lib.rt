@@ -7,11 +7,13 @@ mod file;
 mod laws;
 mod names;
 mod payload;
+mod reading;
 
 pub use file::listing;
 pub use laws::{
     a_file_is_listable, a_listing_bounds_its_file, listing_is_of_its_file, payload_lines_grow,
 };
+pub use reading::file_listing;
 
 #[cfg(test)]
 mod tests;

@@ -4,7 +4,9 @@ ghost use Rattle.std.specs.Prelude.{◌≡◌, map, length, IfOk, option_copied,
 ghost use Rattle.ext_term.specs.Name.{name_text};
 ghost use Rattle.index_tables.specs.Entries.{NamesAtoms, import_atoms};
 ghost use Rattle.index_tables.specs.Text.{import_text};
-ghost use Rattle.listing_out.specs.Comments.{atoms_in, called, imports_in, names_in, payload_in, shortened};
+ghost use Rattle.index_tables.specs.Reading.{all_atoms, all_entries};
+ghost use Rattle.index_tables.specs.Shape.{import_shape};
+ghost use Rattle.listing_out.specs.Comments.{called, names_in, names_of, payload_in, records_in, shortened};
 
 use beam_module::{ChunkVal, FileVal};
 use bk_base::{ByteList, Bytes, ItemList, NoMemory};
@@ -13,6 +15,12 @@ use ext_term::name_text;
 use iff_form::Id;
 use index_tables::{Atoms, Imports, TableRefusal, put_import, read_atoms, read_imports};
 use std::alloc::Global;
+
+/// The id of the chunk that names the atoms.
+pub(crate) const ATOMS: Id = Id(*b"AtU8");
+
+/// The id of the chunk that names the imports.
+pub(crate) const IMPORTS: Id = Id(*b"ImpT");
 
 // The most bytes of a name in a comment.
 const MOST: usize = 40;
@@ -31,8 +39,19 @@ impl Names {
     pub(crate) fn of_file(alloc: Global, v: &FileVal) -> Result<Names, NoMemory>
         ensures { IfOk result (λ names. names ≡ names_in v.now) }
     {
-        let atoms = atoms_in(alloc, v)?;
-        let imports = imports_in(alloc, v, &atoms)?;
+        Names::of_tables(alloc, payload_in(v, ATOMS), payload_in(v, IMPORTS))
+    }
+
+    /// The names of the file with these payloads of its tables.
+    pub(crate) fn of_tables(
+        alloc: Global,
+        atoms: Option<&[u8]>,
+        imports: Option<&[u8]>,
+    ) -> Result<Names, NoMemory>
+        ensures { IfOk result (λ names. names ≡ names_of (option_copied atoms.entry) (option_copied imports.entry)) }
+    {
+        let atoms = atoms_of(alloc, atoms)?;
+        let imports = imports_of(alloc, imports, &atoms)?;
         Ok(Names {
             atoms: atom_names(alloc, &atoms)?,
             imports: import_names(alloc, &imports, &atoms)?,
@@ -68,10 +87,10 @@ fn payload_in(v: &FileVal, wanted: Id) -> Option<&[u8]>
     None
 }
 
-fn atoms_in(alloc: Global, v: &FileVal) -> Result<Atoms, NoMemory>
-    ensures { IfOk result (λ names. names ≡ atoms_in v.now) }
+fn atoms_of(alloc: Global, payload: Option<&[u8]>) -> Result<Atoms, NoMemory>
+    ensures { IfOk result (λ names. names ≡ records_in all_atoms (option_copied payload.entry)) }
 {
-    let Some(payload) = payload_in(v, Id(*b"AtU8")) else {
+    let Some(payload) = payload else {
         return Ok(Atoms::new(alloc));
     };
     match read_atoms(alloc, payload) {
@@ -81,12 +100,11 @@ fn atoms_in(alloc: Global, v: &FileVal) -> Result<Atoms, NoMemory>
     }
 }
 
-fn imports_in(alloc: Global, v: &FileVal, atoms: &Atoms) -> Result<Imports, NoMemory>
-    requires { atoms.now ≡ atoms_in v.now }
-    ensures imports { IfOk result (λ imports. imports ≡ imports_in v.now) }
+fn imports_of(alloc: Global, payload: Option<&[u8]>, atoms: &Atoms) -> Result<Imports, NoMemory>
+    ensures imports { IfOk result (λ imports. imports ≡ records_in (all_entries import_shape atoms.now) (option_copied payload.entry)) }
     ensures named { IfOk result (NamesAtoms import_atoms atoms.now) }
 {
-    let Some(payload) = payload_in(v, Id(*b"ImpT")) else {
+    let Some(payload) = payload else {
         return Ok(Imports::new(alloc));
     };
     match read_imports(alloc, payload, atoms) {

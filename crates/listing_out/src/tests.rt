@@ -2,9 +2,9 @@ use super::*;
 use crate::code::put_code;
 use crate::names::Names;
 use crate::payload::put_payload;
-use beam_module::{ChunkVal, FileVal};
+use beam_module::{ChunkVal, FileVal, ModuleRefusal};
 use bk_base::{ByteList, Bytes, ItemList};
-use code_chunk::read_code;
+use code_chunk::{CodeRefusal, read_code};
 use iff_form::Id;
 use std::alloc::Global;
 use std::test::Fail;
@@ -25,6 +25,30 @@ fn a_file_is_listed(rt: HostRuntime) -> Result<(), Fail> {
     assert_eq!(rt; text.as_slice(), lines.as_slice());
     a_file_is_listable();
     listing_is_of_its_file();
+    Ok(())
+}
+
+#[test]
+fn a_file_is_listed_as_it_is_read(rt: HostRuntime) -> Result<(), Fail> {
+    let alloc = rt.alloc();
+    let mut file =
+        *b"FOR1\0\0\0\x3cBEAMAtU8\0\0\0\x06\0\0\0\x01\x01m\0\0Code\0\0\0\x18\0\0\0\x10\0\0\0\0\
+\0\0\0\x03\0\0\0\x01\0\0\0\x01\x02\x12\0\x03StrT\0\0\0\0";
+    let text = file_listing(alloc, &file)?;
+    let lines =
+        b"beam 1\nchunk AtU8\n  00000001016d\ncode 3 1 1 -\n  func_info a1 u0 x0  ; m\nchunk StrT\n";
+    assert_eq!(rt; text.as_slice(), lines.as_slice());
+    // an opcode that is none, and a form that is cut
+    file[56] = 0;
+    let refusal = file_listing(alloc, &file).err();
+    let wanted = CodeRefusal::Opcode { at: 20, op: 0 };
+    assert!(rt; matches!(refusal, Some(ModuleRefusal::Code(found)) if found == wanted));
+    assert!(rt;
+        matches!(
+            file_listing(alloc, &file[..60]),
+            Err(ModuleRefusal::Form(_))
+        )
+    );
     Ok(())
 }
 

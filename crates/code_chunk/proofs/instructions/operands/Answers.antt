@@ -21,12 +21,12 @@ returns-in_err-operand-clause-end c = c.in_err-operand.ensures.end ∙ c.loop.in
 pub loop-preserved : goal.loop-preserved
 loop-preserved c =
     let one = operand_in (end_of c.args.cur.now) in
-    let read : one c.loop.cur.rest ≡ Ok (c.in_ok-operand.operand, c.operand.new.cur.rest) =
-    subst (λ (size : ℕ). operand_in size c.loop.cur.rest ≡ Ok (c.in_ok-operand.operand, c.operand.new.cur.rest)) c.loop.invariant.same c.in_ok-operand.ensures.read in
+    let read : one c.loop.cur.rest ≡ Ok (c.in_ok-operand.operand, c.next_operand.new.cur.rest) =
+    subst (λ (size : ℕ). operand_in size c.loop.cur.rest ≡ Ok (c.in_ok-operand.operand, c.next_operand.new.cur.rest)) c.loop.invariant.same c.in_ok-operand.ensures.read in
     record {
       read =
           rw c.in_ok-push.ensures.ok
-          (goes_on one c.loop.list c.args.arity c.loop.counter c.loop.cur.rest c.operand.new.cur.rest c.in_ok-operand.operand (many_at one c.args.arity c.args.cur.now.rest) c.loop-test.true read c.loop.invariant.read);
+          (goes_on one c.loop.list c.args.arity c.loop.counter c.loop.cur.rest c.next_operand.new.cur.rest c.in_ok-operand.operand (many_at one c.args.arity c.args.cur.now.rest) c.loop-test.true read c.loop.invariant.read);
       same = c.in_ok-operand.ensures.end ∙ c.loop.invariant.same;
     }
 
