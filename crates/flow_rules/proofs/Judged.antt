@@ -1,7 +1,7 @@
 -- The faults and the plans of the first instructions of a function, as a loop finds them.
-use Rattle.std.proofs.Common.{◌≡◌, ◌∙◌, ℕ, ◌+◌, ◌<◌, ◌≤◌, List, [], ◌∷◌, ◌++◌, take, drop, length, get_or, slice_get, Option, Some, sym, ap, subst, arith}
+use Rattle.std.proofs.Common.{◌≡◌, ◌∙◌, ℕ, ◌+◌, ◌<◌, List, [], ◌∷◌, ◌++◌, take, drop, length, get_or, slice_get, Option, Some, sym, ap, subst, arith}
 use Rattle.std.specs.List.{AllZip}
-use Rattle.std.proofs.lemmas.List.{append_assoc, append-nil, drop_all, drop_more, take_all}
+use Rattle.std.proofs.lemmas.List.{append_assoc, drop_more}
 use Rattle.std.proofs.lemmas.Grind.{take_at_read}
 use Rattle.op_table.specs.declared.plans.Plan.{Plan}
 use Rattle.op_table.specs.Instruction.{Instruction}
@@ -37,11 +37,6 @@ module _ (m : ModuleValue) (f : Piece) (number : ℕ) where
   pub none_yet : HasFaults 0 []
   none_yet = ap (λ (n : ℕ). faults_from m f number n f.instrs) (omega arith)
 
-  pub all_faults : (place : ℕ) (faults : List Fault) → length f.instrs ≤ place → HasFaults place faults → faults ≡ function_faults m number f
-  all_faults place faults past has =
-      let none : faults_from m f number (f.first + place) (drop place f.instrs) ≡ [] = ap (faults_from m f number (f.first + place)) (drop_all place f.instrs past) in
-      sym (append-nil faults) ∙ (ap (λ (others : List Fault). faults ++ others) (sym none) ∙ has)
-
   pub next_faults : (place : ℕ) (faults : List Fault) (i : Instruction) (fault : Option Reason) → place < length f.instrs → i ≡ get_or f.instrs place i → instruction_fault m f i ≡ fault → HasFaults place faults → HasFaults (place + 1) (faults ++ faults_at number (f.first + place) fault)
   next_faults place faults i fault below at told has =
       let rest = drop (place + 1) f.instrs in
@@ -61,9 +56,6 @@ module _ (m : ModuleValue) (f : Piece) (number : ℕ) where
   pub no_plan : (place : ℕ) (faults : List Fault) (fault : Fault) (plans : List Plan) → HavePlans place (faults ++ fault ∷ []) plans
   no_plan place [] fault plans none = absurd cc
   no_plan place (other ∷ faults) fault plans none = absurd cc
-
-  pub all_plans : (place : ℕ) (faults : List Fault) (plans : List Plan) → length f.instrs ≤ place → HavePlans place faults plans → faults ≡ [] → AllZip (HasPlan m f) f.instrs plans
-  all_plans place faults plans past have none = subst (λ (is : List Instruction). AllZip (HasPlan m f) is plans) (take_all place f.instrs past) (have none)
 
 pub faults_are : (m : ModuleValue) (number : ℕ) (f : Piece) → slice_get m.code.functions number ≡ Some f → faults_of m number ≡ function_faults m number f
 faults_are m number f there = ap (faults_of_piece m number) there

@@ -1,5 +1,5 @@
 -- A block that is followed from place to place.
-use Rattle.std.proofs.Common.{◌≡◌, ◌∙◌, ℕ, zero, suc, ◌+◌, ◌-◌, ◌<◌, ◌≤◌, Bool, if◌then◌else◌, Option, Some, None, option_and_then, List, [], ◌∷◌, ◌++◌, length, get_or, unwrap_or, slice_get, refl, sym, ap, subst, arith, append_assoc, inl, inr}
+use Rattle.std.proofs.Common.{◌≡◌, ◌∙◌, ℕ, zero, suc, ◌+◌, ◌-◌, ◌<◌, ◌≤◌, Bool, if◌then◌else◌, Option, Some, None, option_and_then, List, [], ◌∷◌, ◌++◌, length, get_or, unwrap_or, slice_get, sym, ap, subst, arith, append_assoc, inl, inr}
 use Rattle.std.proofs.lemmas.Bool.{cases_lt}
 use Rattle.std.proofs.lemmas.List.{append-nil, get_or-map}
 use Rattle.std.proofs.lemmas.Option.{get_or_from_slice_get, unwrap_or-slice_get}
@@ -22,7 +22,7 @@ use Rattle.flow_rules.specs.Flow.{FitsBody, meaning_of}
 use Rattle.flow_rules.specs.KnownEdges.{goes_at}
 use Rattle.flow_rules.specs.FlowBody.{body_of}
 use Rattle.flow_rules.specs.Gaining.{AddsPart, Gains, GainsPart}
-use Rattle.flow_rules.specs.Gathering.{Gains-one, Gains-then, GainsPart-of, GainsPart-front, GainsPart-then}
+use Rattle.flow_rules.specs.Gathering.{Gains-one, Gains-then, GainsPart-front, GainsPart-then}
 use Rattle.flow_rules.specs.Lawful.{body_lawful}
 use Rattle.flow_rules.specs.Starts.{begins, is_head}
 
@@ -173,9 +173,6 @@ module _ (goes : ℕ → Known → Option Known) (jumps : ℕ → Known → List
 
     pub walk_ends : (d : State) (e2 : List (Edge State)) → store_of d ≡ t → e2 ≡ e1 ++ record { target = to; state = d } ∷ [] → Gains e0 edges e2
     walk_ends d e2 is pushed = subst (λ (wanted : List (Edge Known)). Gains e0 wanted e2) (sym all) (Gains-then e0 (gathered goes jumps p size s) e1 (onward to (Some t)) e2 first (Gains-one e1 (record { target = to; state = d }) t e2 pushed is))
-
-    pub walk_all_but_last : GainsPart e0 edges e1
-    walk_all_but_last = GainsPart-of e0 (gathered goes jumps p size s) (onward to (along goes p size s)) edges e1 refl first
 
 -- ---- what is read off a block
 

@@ -1,7 +1,7 @@
 -- What a list of edges gains as what is known is what it gains as states.
-use Rattle.std.proofs.Common.{◌≡◌, ◌∙◌, ℕ, true, List, [], ◌∷◌, ◌++◌, map, sym, ap, subst}
+use Rattle.std.proofs.Common.{◌≡◌, ◌∙◌, ℕ, true, List, [], ◌∷◌, map, sym, ap, subst}
 use Rattle.std.specs.List.{All, AllZip}
-use Rattle.std.proofs.lemmas.List.{map-append, append_cancel_left}
+use Rattle.std.proofs.lemmas.List.{map-append}
 use Rattle.std.proofs.lemmas.List.Elements.{All-head, All-tail, All-weaker}
 use Rattle.reg_state.specs.declared.state.State.{State}
 use Rattle.reg_state.specs.States.{Known, store_of, IsBelow}
@@ -64,9 +64,3 @@ module _ (b : Body) (fits : body_fits b ≡ true) (place : ℕ) (s : State) (fit
         ap (map (stated b.bounds.x)) gain.2 ∙ map-append (stated b.bounds.x) part rest,
         (put.0, put.1, same_edges b put.0 part (all_front (FitState b) part rest all) put.2),
       )
-
--- a list whose edges say what it gains
-pub gains_from : (before added after : List (Edge State)) (wanted : List (Edge Known)) → after ≡ before ++ added → map known_edge after ≡ map known_edge before ++ wanted → Gains before wanted after
-gains_from before added after wanted is says =
-    let both = sym (map-append known_edge before added) ∙ sym (ap (map known_edge) is) ∙ says in
-    (added, is, append_cancel_left (map known_edge before) (map known_edge added) wanted both)

@@ -67,6 +67,7 @@ impl<'m> FnFlow<'m> {
             reason,
         })
     }
+
     /// Puts the first need of the instruction at a place that what is known there doesn't meet at the end
     /// of `out`. It is refused for want of memory alone, and then has put nothing there.
     pub(crate) fn add_fault(

@@ -1,5 +1,5 @@
 -- Where the edges of a block come from, and which edges of its places it has.
-use Rattle.std.proofs.Common.{◌≡◌, ◌∙◌, ◌⊎◌, ℕ, zero, suc, ◌+◌, ◌-◌, ◌<◌, ◌≤◌, List, [], ◌∷◌, ◌++◌, map, Contains, Option, Some, None, option_and_then, refl, sym, ap, subst, inl, inr, arith}
+use Rattle.std.proofs.Common.{◌≡◌, ◌∙◌, ◌⊎◌, ℕ, zero, suc, ◌+◌, ◌-◌, ◌<◌, ◌≤◌, List, [], ◌++◌, map, Contains, Option, Some, None, option_and_then, refl, sym, ap, subst, inl, inr, arith}
 use Rattle.std.proofs.lemmas.Bool.{cases_lt}
 use Rattle.std.proofs.lemmas.Option.{none-some, same_Some}
 use Rattle.std.proofs.lemmas.List.Elements.{Contains-push, Contains-append_left, Contains-append_right, Contains-append_cases}
@@ -72,12 +72,6 @@ module _ (S : Type 0) (m : Meaning S) (c : Cut S) (law : IsLawful m) (cut : IsCu
             let next : c.head (b + 1) ≡ c.head (suc b) = ap c.head (omega arith) in
             omega (arith, before, step, next)
       ]
-
-  head_below : (a b : ℕ) → a < b → b ≤ c.count → c.head a < c.head b
-  head_below a b low inside =
-      let step = cut.rises a (omega (arith, low, inside)) in
-      let rest = head_at_most (a + 1) b (omega (arith, low)) inside in
-      omega (arith, step, rest)
 
   pub end_inside : (b : ℕ) → b < c.count → c.head (b + 1) ≤ m.place_count
   end_inside b inside = let most = head_at_most (b + 1) c.count (omega (arith, inside)) (omega arith) in let end = cut.end in omega (arith, most, end)

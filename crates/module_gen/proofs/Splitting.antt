@@ -4,7 +4,6 @@ use Rattle.std.proofs.lemmas.Bool.{cases_lt, lt-ltb}
 use Rattle.std.proofs.lemmas.List.{map-append, length-map}
 use Rattle.std.proofs.lemmas.List.Elements.{All-nil, All-push, recursion_from_All}
 use Rattle.std.proofs.lemmas.Option.{none-some}
-use Rattle.compact_term.specs.declared.operand.Plain.TheVariants.{U}
 use Rattle.op_table.specs.Instruction.{Instruction}
 use Rattle.func_split.specs.declared.mark.Mark.{Mark}
 use Rattle.func_split.specs.declared.mark.Mark.TheVariants as marks
@@ -15,9 +14,6 @@ use Rattle.module_gen.proofs.Rows.{◌&◌}
 use Rattle.module_gen.specs.Code.{instr, function_of, functions_of, instrs_of, piece_of, pieces_of, split_of}
 
 -- ---- the marks of one function
-
-label_mark : (number : ℕ) → number < 4294967296 → mark_of (instr 1 (U number ∷ [])) ≡ marks.Label (Some number)
-label_mark number below = rw (lt-ltb number 4294967296 below) refl
 
 -- the marks behind the entry label
 abbrev body_marks : ℕ → List Mark

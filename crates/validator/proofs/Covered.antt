@@ -1,5 +1,5 @@
 -- How a report is put together, function by function, and where its faults are.
-use Rattle.std.proofs.Common.{◌≡◌, ◌≢◌, ◌∙◌, ℕ, zero, suc, ◌+◌, ◌-◌, ◌*◌, ◌<◌, ◌≤◌, Option, Some, None, Result, Ok, Err, OnOk, List, [], ◌∷◌, ◌++◌, length, take, slice_get, get_or, refl, sym, ap, subst, append_assoc, inl, inr, arith}
+use Rattle.std.proofs.Common.{◌≡◌, ◌∙◌, ℕ, zero, suc, ◌+◌, ◌-◌, ◌<◌, ◌≤◌, Option, Some, None, Result, Ok, Err, OnOk, List, [], ◌∷◌, ◌++◌, length, take, slice_get, get_or, refl, sym, ap, subst, append_assoc, inl, inr, arith}
 use Rattle.std.specs.List.{All}
 use Rattle.std.proofs.lemmas.Bool.{cases_lt}
 use Rattle.std.proofs.lemmas.List.{append-nil, length-take-le, take_more}
@@ -23,11 +23,9 @@ use Rattle.flow_rules.specs.Flow.{meaning_of}
 use Rattle.flow_rules.specs.FlowBody.{need_at}
 use Rattle.flow_rules.specs.Making.{IsFlowOf, faults_of, faults_of_piece}
 use Rattle.flow_rules.specs.Reporting.{AreReported, IsFunctionReport, IsReport, IsTypedReport, faults_in, typed_faults}
-use Rattle.flow_rules.specs.Ranks.{height}
-use Rattle.flow_rules.specs.Reports.{body_in, function_report, reports_from}
-use Rattle.flow_rules.specs.Starts.{block_count}
+use Rattle.flow_rules.specs.Reports.{function_report, reports_from}
 use Rattle.validator.specs.Reported.{AddsReport, IsIn, IsReportOf}
-use Rattle.validator.specs.Counted.{if_sound, least_of, most_of, summed}
+use Rattle.validator.specs.Counted.{if_sound, least_of, summed}
 use Rattle.validator.specs.Text.{fault_line, line_in, line_with, opcode_text}
 
 -- ---- one function more
@@ -36,9 +34,6 @@ use Rattle.validator.specs.Text.{fault_line, line_in, line_with, opcode_text}
 pub record Covers (m : ModuleValue) (number : ℕ) (functions : List Piece) (report : List Fault) : Type 0 where
   pub reported : AreReported m number functions report
   pub told : report ≡ reports_from m number functions
-
-pub covers_none : (m : ModuleValue) → Covers m 0 [] []
-covers_none m = record { reported = refl; told = refl }
 
 covers_more : (m : ModuleValue) (functions : List Piece) (number : ℕ) (report : List Fault) (f : Piece) (list : List Fault) → IsReportOf m (number + length functions) f list → AreReported m number functions report → AreReported m number (functions ++ f ∷ []) (report ++ list)
 covers_more m [] number report f list has are =
@@ -183,21 +178,5 @@ summed_most f k (suc n) low =
       | inr under ↦ let before = summed_most f k n under in omega (arith, before)
     ]
 
--- of a function that is judged block by block
-pub most_is : (m : ModuleValue) (number : ℕ) (f : Piece) (b : Body) → slice_get m.code.functions number ≡ Some f → function_faults m number f ≡ [] → b ≡ body_in m f → most_of m number (slice_get m.code.functions number) ≡ block_count f * height b.bounds
-most_is m number f b there sound is =
-    ap (most_of m number) there ∙ (ap (λ (faults : List Fault). if_sound faults (block_count f * height (body_in m f).bounds)) sound ∙ ap (λ (c : Body). block_count f * height c.bounds) (sym is))
-
 pub least_is : (m : ModuleValue) (number : ℕ) (f : Piece) → slice_get m.code.functions number ≡ Some f → function_faults m number f ≡ [] → least_of m number (slice_get m.code.functions number) ≡ 1
 least_is m number f there sound = ap (least_of m number) there ∙ ap (λ (faults : List Fault). if_sound faults 1) sound
-
--- of a function with faults
-pub least_not : (m : ModuleValue) (number : ℕ) → faults_of m number ≢ [] → least_of m number (slice_get m.code.functions number) ≡ 0
-least_not m number wrong = go (slice_get m.code.functions number) wrong where
-  faulty : (faults : List Fault) → faults ≢ [] → if_sound faults 1 ≡ 0
-  faulty [] some = absurd (some refl)
-  faulty (fault ∷ faults) some = refl
-
-  go : (o : Option Piece) → faults_of_piece m number o ≢ [] → least_of m number o ≡ 0
-  go None some = refl
-  go (Some f) some = faulty (function_faults m number f) some
