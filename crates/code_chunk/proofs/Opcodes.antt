@@ -1,5 +1,5 @@
 -- The row of an opcode is of that opcode, and the walk over instructions goes on behind each that is read.
-use Rattle.std.proofs.Common.{◌≡◌, ℕ, suc, ◌-◌, inl, inr, ◌≤◌, ◌<◌, Bool, true, false, cond, eqb, List, [], ◌∷◌, length, Result, Option, Some, None, Ok, Err, sym, ap, ◌∙◌, arith}
+use Rattle.std.proofs.Common.{◌≡◌, ℕ, suc, ◌-◌, inl, inr, ◌≤◌, ◌<◌, Bool, true, eqb, List, [], ◌∷◌, length, Option, Some, None, Ok, Err, sym, ap, ◌∙◌, arith}
 use Rattle.std.specs.List.{find}
 use Rattle.std.specs.Option.{option_map}
 use Rattle.std.proofs.lemmas.Bool.{eqb-true}

@@ -1,6 +1,7 @@
 pub mod Taken
 pub mod Written
 pub mod Numbers
+pub mod Small
 pub mod Heads
 pub mod Operands
 pub mod Proper

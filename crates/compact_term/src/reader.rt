@@ -1,6 +1,6 @@
 //! Reading an operand.
 
-ghost use Rattle.std.specs.Prelude.{◌≡◌, ◌⊎◌, ℕ, ◌<◌, ◌≤◌, ◌^◌, ◌%◌, ◌++◌, List, length, drop, Ok, Err, IfOk, IfErr, IfSome, OnErr};
+ghost use Rattle.std.specs.Prelude.{◌≡◌, ◌⊎◌, ℕ, pos, ◌<◌, ◌≤◌, ◌^◌, ◌%◌, ◌++◌, List, length, drop, Ok, Err, IfOk, IfErr, IfSome, OnErr};
 ghost use Rattle.bk_base.specs.Place.{end_of};
 ghost use Rattle.bk_codec.specs.Exact.{Begins};
 ghost use Rattle.bk_codec.specs.Reading.{Gives, Fails, giving, many_at};
@@ -8,7 +8,7 @@ ghost use Rattle.compact_term.specs.declared.operand.Operand.{Operand};
 ghost use Rattle.compact_term.specs.declared.reader.Head.TheVariants as heads;
 ghost use Rattle.compact_term.specs.Spelling.{Spells};
 ghost use Rattle.compact_term.specs.Operand.{MeetsType, IsProper};
-ghost use Rattle.compact_term.specs.Reading.{below_at, integer_at, u_at, reg_at, extended_by, tagged, head_at, member_at, pair_at, operand_at};
+ghost use Rattle.compact_term.specs.Reading.{short_at, below_at, integer_at, u_at, reg_at, extended_by, tagged, head_at, member_at, pair_at, operand_at};
 
 use crate::integer::{Integer128, WideInteger};
 use crate::list::{PairList, PlainList};
@@ -193,7 +193,7 @@ fn whole_operand(alloc: Global, cur: &mut Cursor<'_>) -> Result<Operand, Operand
 }
 
 // The operand at the front of the bytes, and how many of them spell it. It stands apart, so that
-// operands of one byte don't pay for its room.
+// operands of one or two bytes don't pay for its room.
 #[inline(never)]
 fn front(alloc: Global, bytes: &[u8]) -> Result<(Operand, usize), OperandRefusal>
     ensures found { IfOk result (λ r. Begins (Spells r.0) bytes.now (drop r.1 bytes.now)) }
@@ -209,15 +209,12 @@ fn front(alloc: Global, bytes: &[u8]) -> Result<(Operand, usize), OperandRefusal
     Ok((operand, len))
 }
 
-// The operand that a byte spells alone, unless the byte says more than a tag and a small number.
-#[tactic(auto, unfolding(crate::specs::Reading::tagged, crate::specs::Reading::integer_at, crate::specs::Reading::below_at, crate::specs::Reading::whole_at, crate::specs::Reading::short_at))]
-fn plain_byte(first: u8) -> Option<Plain>
-    ensures { IfSome result (λ p. (bytes : List ℕ) → tagged (first % 8) first bytes ≡ giving (heads.Plain p) bytes) }
+// The plain operand that a first byte begins whose number is `n`, unless more follows by its tag.
+#[tactic(auto, using(crate::proofs::Small::short_below, crate::proofs::Small::short_integer), unfolding(crate::specs::Reading::tagged))]
+fn plain_of(first: u8, n: u32) -> Option<Plain>
+    requires { first < 248 }
+    ensures { IfSome result (λ p. (bytes rest : List ℕ) → short_at first bytes ≡ giving (pos n) rest → tagged (first % 8) first bytes ≡ giving (heads.Plain p) rest) }
 {
-    if first / 8 % 2 != 0 {
-        return None;
-    }
-    let n = u32::from(first / 16);
     match first % 8 {
         0 => Some(Plain::U(u64::from(n))),
         1 => Some(Plain::I(Integer128::from(i128::from(n)))),
@@ -230,18 +227,38 @@ fn plain_byte(first: u8) -> Option<Plain>
     }
 }
 
-// The operand at the front of the bytes, where a single byte spells it.
-#[tactic(auto, unfolding(crate::specs::Reading::head_at, crate::specs::Reading::operand_at))]
-fn small_front(bytes: &[u8]) -> Option<Operand>
-    ensures found { IfSome result (λ o. Begins (Spells o) bytes.now (drop 1 bytes.now)) }
-    ensures within { IfSome result (λ _. 1 ≤ length bytes.now) }
-    ensures proper { IfSome result IsProper }
-    ensures meets_type { IfSome result MeetsType }
-    ensures read { IfSome result (λ o. operand_at bytes.now ≡ Ok (o, drop 1 bytes.now)) }
+// The number in the forms of one and of two bytes, and how many of these stand behind the first.
+#[tactic(auto, unfolding(crate::specs::Reading::short_at))]
+fn small_number(first: u8, rest: &[u8]) -> Option<(u32, usize)>
+    ensures read { IfSome result (λ r. short_at first rest.now ≡ giving (pos r.0) (drop r.1 rest.now)) }
+    ensures within { IfSome result (λ r. r.1 ≤ length rest.now) }
+    ensures short { IfSome result (λ _. first < 248) }
 {
-    let first = bytes.first()?;
-    let plain = plain_byte(*first)?;
-    Some(Operand::One(plain))
+    if first / 8 % 2 == 0 {
+        return Some((u32::from(first / 16), 0));
+    }
+    if first / 16 % 2 != 0 {
+        return None;
+    }
+    let low = *rest.first()?;
+    Some((256 * u32::from(first / 32) + u32::from(low), 1))
+}
+
+// The operand at the front of the bytes, where one or two of them spell it, and how many do.
+#[tactic(auto, unfolding(crate::specs::Reading::head_at, crate::specs::Reading::operand_at))]
+fn small_front(bytes: &[u8]) -> Option<(Operand, usize)>
+    ensures found { IfSome result (λ r. Begins (Spells r.0) bytes.now (drop r.1 bytes.now)) }
+    ensures within { IfSome result (λ r. r.1 ≤ length bytes.now) }
+    ensures proper { IfSome result (λ r. IsProper r.0) }
+    ensures meets_type { IfSome result (λ r. MeetsType r.0) }
+    ensures read { IfSome result (λ r. operand_at bytes.now ≡ Ok (r.0, drop r.1 bytes.now)) }
+{
+    let [first, rest @ ..] = bytes else {
+        return None;
+    };
+    let (n, more) = small_number(*first, rest)?;
+    let plain = plain_of(*first, n)?;
+    Some((Operand::One(plain), 1 + more))
 }
 
 /// The operand at the front of what is left. The cursor moves past just its bytes, and stays after a
@@ -268,8 +285,8 @@ pub fn read_operand(alloc: Global, cur: &mut Cursor<'_>) -> Result<Operand, Oper
     ensures unmoved { OnErr result (cur.new ≡ cur.old) }
 {
     let bytes = cur.rest();
-    if let Some(operand) = small_front(bytes) {
-        let _ = cur.take(1);
+    if let Some((operand, len)) = small_front(bytes) {
+        let _ = cur.take(len);
         return Ok(operand);
     }
     let (operand, len) = front(alloc, bytes)?;

@@ -1,4 +1,4 @@
-use Rattle.std.proofs.Common.{◌≡◌, ◌∙◌, ◌∷◌, ◌-◌, ℕ, suc, List, length, Some, None, Err, ap, sym, arith}
+use Rattle.std.proofs.Common.{◌∙◌, ◌∷◌, ◌-◌, ℕ, List, length, ap, sym, arith}
 use Rattle.bk_base.specs.Place.{end_of}
 use Rattle.op_table.specs.Table.{row_with, row_of}
 use Rattle.code_chunk.specs.Reading.{instrs_at}

@@ -15,4 +15,4 @@ returns-clause-only c o text more spelt is =
 
 pub returns-in-Some-clause-only : goal.returns-in-Some-clause-only
 returns-in-Some-clause-only c o text more spelt is =
-    inl (ap (λ (x : _). Ok x) (same_operand o c.in-Some.operand text more c.args.cur.now.rest (drop 1 c.args.cur.now.rest) (rw c.rest-bytes.ensures at c.in-Some.ensures.found) spelt is))
+    inl (ap (λ (x : _). Ok x) (same_operand o c.in-Some.operand text more c.args.cur.now.rest (drop c.in-Some.len c.args.cur.now.rest) (rw c.rest-bytes.ensures at c.in-Some.ensures.found) spelt is))
